@@ -1,7 +1,7 @@
 -- The platform, on one region of 512 pages, after the AMD64 manual, volume 3 (PVALIDATE, RMPADJUST) and its RMP.
 -- Each operation says whether it faults, what it answers, and how the region stands after it where it does not fault.
 -- A fault leaves the region as it was.
-use Rattle.std.specs.Prelude.{ℕ, ◌-◌, ◌*◌, ◌/◌, ◌%◌, Bool, true, false, ◌&&◌, not, ◌==◌, nat_lt, nat_le, if◌then◌else◌, List, [], ◌∷◌, slice_index_or, slice_set, bit_and}
+use Rattle.std.specs.Prelude.{ℕ, ◌-◌, ◌/◌, ◌%◌, Bool, true, false, ◌&&◌, not, ◌==◌, nat_lt, nat_le, if◌then◌else◌, List, [], ◌∷◌, slice_index_or, slice_set, bit_and}
 use Rattle.std.specs.List.{list_all}
 use Rattle.svsm_types.specs.declared.platform.Size.{Size}
 use Rattle.svsm_types.specs.declared.platform.Size.TheVariants.{Small, Large}

@@ -1,5 +1,5 @@
 -- Pages by number, addresses in bytes, and the 512 pages of one region.
-use Rattle.std.specs.Prelude.{ℕ, ◌+◌, ◌*◌, ◌/◌, ◌%◌, Bool, ◌==◌, nat_lt, List, [], ◌∷◌, slice_index_or, slice_set, map}
+use Rattle.std.specs.Prelude.{ℕ, ◌*◌, ◌/◌, ◌%◌, Bool, ◌==◌, nat_lt, List, [], ◌∷◌, slice_index_or, slice_set, map}
 use Rattle.svsm_types.specs.declared.platform.Size.{Size}
 use Rattle.svsm_types.specs.declared.platform.Size.TheVariants.{Small, Large}
 
