@@ -1,0 +1,5 @@
+//! What each call of the core protocol does, from its registers to its reply, and how cores make a run of the machine.
+//!
+//! The definitions stand in `specs/`: `Sequences` has the whole sequences of each call, `Calls` what a call asks next,
+//! `CoreRun` the run of one core, `Run` the run of all.
+#![tactic(auto)]
