@@ -1,5 +1,5 @@
 -- The state of an image before the boot, and the booted state.
-use Rattle.std.specs.Prelude.{ℕ, ◌+◌, ◌-◌, ◌*◌, ◌/◌, ◌%◌, ◌==◌, nat_lt, nat_le, Bool, true, false, ◌&&◌, if◌then◌else◌, Option, None, Some, List, [], ◌∷◌, ◌++◌, map, filter, find, count_by, slice_index_or}
+use Rattle.std.specs.Prelude.{ℕ, ◌+◌, ◌-◌, ◌*◌, ◌/◌, ◌%◌, ◌==◌, nat_lt, nat_le, Bool, true, false, ◌&&◌, if◌then◌else◌, Option, None, Some, List, [], ◌∷◌, ◌++◌, map, filter, find, count_by, slice_index_or, replicate}
 use Rattle.std.specs.List.{range_with_len, list_any, flat_map}
 use Rattle.svsm_types.specs.Pages.{page_of, region_of, is_multiple}
 use Rattle.svsm_types.specs.Hardware.{blank}
@@ -106,6 +106,17 @@ region_in image region = record {
   recorded = map (λ page. recorded_in (range_of image page)) (pages_of region);
 }
 
+-- outside the map there is nothing: pages that are shared and the guest's
+abbrev pub no_region : RegionState
+no_region = record {
+  hw = record { pages = replicate 512 blank; large = false; words = λ _. 0 };
+  owner = replicate 512 Guest;
+  recorded = replicate 512 false;
+}
+
+abbrev pub regions_in : Image → ℕ → RegionState
+regions_in image number = if nat_lt number image.regions then region_in image number else no_region
+
 -- POOL AND REGISTRY
 
 abbrev pub is_pools : Image → ℕ → Bool
@@ -135,7 +146,7 @@ rows_of image = flat_map (λ (core : CoreLine). row_of core core.seat) image.cor
 
 -- the state before the boot
 abbrev pub image_state : Image → State
-image_state image = record { regions = region_in image; pool = pool_of image; rows = rows_of image }
+image_state image = record { regions = regions_in image; pool = pool_of image; rows = rows_of image }
 
 -- BOOT
 

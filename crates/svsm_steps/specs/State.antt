@@ -1,9 +1,11 @@
 -- The state of the machine: one global value.
-use Rattle.std.specs.Prelude.{◌≡◌, ℕ, Bool, false, List, length, slice_index_or}
+use Rattle.std.specs.Prelude.{◌≡◌, ℕ, ◌*◌, Bool, false, List, length, slice_index_or, map}
+use Rattle.std.specs.List.{range_with_len}
 use Rattle.svsm_types.specs.Pages.{page_of, region_of, index_of}
 use Rattle.svsm_types.specs.Hardware.{Platform, blank}
 use Rattle.svsm_types.specs.declared.address.Page.{Page}
 use Rattle.svsm_types.specs.declared.owner.Owner.{Owner}
+use Rattle.svsm_types.specs.declared.owner.RmpRow.{RmpRow}
 use Rattle.svsm_types.specs.declared.owner.Owner.TheVariants.{Guest}
 use Rattle.svsm_types.specs.declared.platform.PageState.{PageState}
 use Rattle.svsm_types.specs.declared.platform.Size.{Size}
@@ -55,6 +57,18 @@ recorded_at page state = slice_index_or (state.regions (region_of page)).recorde
 -- the word at an address
 abbrev pub word_at : ℕ → State → ℕ
 word_at address state = (state.regions (region_of (page_of address))).hw.words address
+
+-- all that stands of a page, and of each page of the first regions
+abbrev pub row_at : ℕ → State → RmpRow
+row_at page state = record {
+  owner = owner_at page state;
+  recorded = recorded_at page state;
+  state = page_at page state;
+  large = (state.regions (region_of page)).hw.large;
+}
+
+abbrev pub rmp_rows : ℕ → State → List RmpRow
+rmp_rows regions state = map (λ page. row_at page state) (range_with_len 0 (512 * regions))
 
 -- a region has 512 pages
 pub record IsSized (r : RegionState) : Type 0 where
