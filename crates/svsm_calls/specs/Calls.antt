@@ -78,11 +78,11 @@ left_by (Empty left) = Some left
 left_by _ = None
 
 -- PVALIDATE: an unchanged page is performed where bit 3 says that it is to be ignored
-abbrev pub on_validated : Listed → ℕ → ℕ → Dialogue → Answer → Dialogue
-on_validated w j word performed Done = performed
-on_validated w j word performed Unchanged = if has_bit 8 word then performed else finish w j None (failed page_unchanged)
-on_validated w j word performed (Hw code) = finish w j None (failed (pvalidate_code code))
-on_validated w j word performed _ = finish w j None (failed invalid_address)
+abbrev pub on_validated : Listed → ℕ → ℕ → Option ℕ → (Option ℕ → Dialogue) → Answer → Dialogue
+on_validated w j word left performed Done = performed left
+on_validated w j word left performed Unchanged = if has_bit 8 word then performed left else finish w j left (failed page_unchanged)
+on_validated w j word left performed (Hw code) = finish w j left (failed (pvalidate_code code))
+on_validated w j word left performed _ = finish w j left (failed invalid_address)
 
 -- DEPOSIT_MEM: a page that was taken is pushed
 abbrev pub on_deposited : Listed → ℕ → ℕ → Option ℕ → (Option ℕ → Dialogue) → Answer → Dialogue
@@ -114,7 +114,7 @@ past_checks w j left (Some code) rest = finish w j left (failed code)
 abbrev pub part : ListCall → Listed → ℕ → ℕ → Option ℕ → (Option ℕ → Dialogue) → Dialogue
 part pvalidate w j word left performed =
     past_checks w j left (page_refusal w.caller.regions word)
-    (ask (Validate w.caller.vmpl (entry_page word) (size_of word) (has_bit 4 word)) (on_validated w j word (performed None)))
+    (ask (Validate w.caller.vmpl (entry_page word) (size_of word) (has_bit 4 word)) (on_validated w j word left performed))
 part deposit w j word left performed =
     past_checks w j left (page_refusal w.caller.regions word)
     (ask (Deposit w.caller.vmpl (entry_page word) (size_of word)) (on_deposited w j word left performed))
