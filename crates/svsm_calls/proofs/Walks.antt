@@ -1,11 +1,11 @@
 -- What a list call asks is one of its whole sequences.
-use Rattle.std.proofs.Common.{◌≡◌, ℕ, zero, suc, ◌+◌, ◌-◌, ◌<◌, Bool, true, false, List, [], ◌∷◌, ◌++◌, length, replicate, Option, None, Some, ap, subst, refl, arith, append_assoc, append-nil}
+use Rattle.std.proofs.Common.{◌≡◌, ℕ, zero, suc, ◌+◌, ◌-◌, ◌<◌, Bool, true, false, List, [], ◌∷◌, ◌++◌, length, Option, None, Some, ap, subst, refl, arith, append_assoc, append-nil}
 use Rattle.std.proofs.lemmas.Bool.Decides.{nat_tests}
-use Rattle.std.specs.Prelude.{IsTrue, nat_lt, nat_le, if◌then◌else◌, ◌&&◌, ◌^◌, ◌%◌, ◌/◌}
+use Rattle.std.specs.Prelude.{IsTrue, nat_lt, if◌then◌else◌}
 use Rattle.svsm_types.specs.declared.address.Page.{Page}
 use Rattle.svsm_types.specs.declared.call.Regs.{Regs}
 use Rattle.svsm_steps.specs.declared.step.Step.{Step}
-use Rattle.svsm_steps.specs.declared.step.Step.TheVariants.{LoadWord, StoreNext, StoreEntry, SetAvail, Release, PoolPush, PoolPop}
+use Rattle.svsm_steps.specs.declared.step.Step.TheVariants.{StoreNext, SetAvail, Release, PoolPush, PoolPop}
 use Rattle.svsm_steps.specs.declared.answer.Answer.{Answer}
 use Rattle.svsm_steps.specs.declared.answer.Answer.TheVariants.{Done, Word, Refused, Unchanged, Hw, Strange, Held, Block, Empty}
 use Rattle.svsm_steps.specs.declared.call.Caller.{Caller}
@@ -13,8 +13,8 @@ use Rattle.svsm_steps.specs.declared.call.Do.{Do}
 use Rattle.svsm_steps.specs.declared.call.Do.TheVariants.{Reply}
 use Rattle.svsm_steps.specs.Formed.{is_listed}
 use Rattle.svsm_calls.specs.Codes.{invalid_address, invalid_parameter, page_unchanged}
-use Rattle.svsm_calls.specs.Lists.{is_size, page_refusal, has_bit, entry_at, entry_page, size_of, block_entry, entries_of, next_of, is_usable, address_refusal}
-use Rattle.svsm_calls.specs.Dialogue.{Dialogue, ask, poll, reply, Asked, ◌gives◌, AreListed, IsWhole}
+use Rattle.svsm_calls.specs.Lists.{is_size, page_refusal, has_bit, entry_page, size_of, entries_of, next_of, is_usable, address_refusal}
+use Rattle.svsm_calls.specs.Dialogue.{Dialogue, ask, reply, Asked, ◌gives◌, AreListed, IsWhole}
 use Rattle.svsm_calls.specs.Calls.{ListCall, pvalidate, deposit, withdraw, Listed, End, whole, stopped, failed, dry, list_of, reply_code, list_reply, avail, finish, left_by, on_validated, on_deposited, on_released, on_filled, on_popped, past_checks, part, on_entry, polled, entries_from, refuse_list, on_header, past, list_call}
 use Rattle.svsm_calls.specs.Sequences.{loads, loaded, validates, deposits, fills, IsPerformed, validated, was_so, deposited, withdrawn, IsFailed, not_loaded, no_size, validate_page, validate_same, validate_refused, validate_code, deposit_page, deposit_refused, deposit_code, not_filled, strange, ArePerformed, IsEnd, at_whole, at_stopped, at_failed, at_dry, pool_left, joined, IsAvail, IsWalk, loads_header, listed, IsListCall, bad_list, no_header, bad_header, walked}
 
@@ -130,7 +130,7 @@ ended_after w n j left left_then end part pairs polls outcome is same e f =
       avail = f.avail;
       performed = (is, tt);
       ends = e;
-      made = rw f.made (simp (append_assoc, append-nil));
+      made = rw f.made (simp append-nil);
       avails = simp (append-nil, same) f.avails;
       replied = f.replied;
     }

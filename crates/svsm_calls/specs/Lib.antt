@@ -3,6 +3,7 @@ pub mod Lists
 pub mod Dialogue
 pub mod Calls
 pub mod Sequences
+pub mod Prefixes
 pub mod Formed
 pub mod Events
 pub mod CoreRun

@@ -3,3 +3,7 @@
 //! The definitions stand in `specs/`: `Sequences` has the whole sequences of each call, `Calls` what a call asks next,
 //! `CoreRun` the run of one core, `Run` the run of all.
 #![tactic(auto)]
+
+mod laws;
+
+pub use laws::{asks_its_sequences, asks_prefixes, fixes_the_next_step};
