@@ -3,3 +3,4 @@ pub mod Plain
 pub mod Back
 pub mod Whole
 pub mod Prefix
+pub mod FormedLemmas

@@ -6,6 +6,7 @@ ghost use Rattle.svsm_steps.specs.declared.call.Do.{Do};
 ghost use Rattle.svsm_calls.specs.Dialogue.{Dialogue, Asked, AreListed, LeadsTo, IsWhole};
 ghost use Rattle.svsm_calls.specs.Calls.{whole_call};
 ghost use Rattle.svsm_calls.specs.Sequences.{IsCall};
+ghost use Rattle.svsm_calls.specs.Formed.{IsCaller, AsksFormed};
 ghost use Rattle.svsm_calls.specs.Prefixes.{Agree, answers_of, CanEnd};
 
 /// A call asks its whole sequences and no others, where each answer is one that the step table lists.
@@ -39,5 +40,12 @@ pub fn fixes_the_next_step()
         → IsCall pend caller regs pairs polls outcome → IsCall pend caller regs others also end
         → Agree (answers_of pairs) (answers_of others) → Agree polls also
         → (pairs ≡ others) × (polls ≡ also) × (outcome ≡ end) }
+{
+}
+
+/// Each step that a call asks is well formed in the caller's regions.
+pub fn asks_well_formed_steps()
+    ensures { (pend : Bool) (caller : Caller) (regs : Regs) → IsCaller caller
+        → AsksFormed caller.regions (whole_call pend caller regs) }
 {
 }
