@@ -4,3 +4,4 @@ pub mod Back
 pub mod Whole
 pub mod Prefix
 pub mod FormedLemmas
+pub mod Rows

@@ -1,13 +1,15 @@
 //! Laws that tie the definitions together. Each is the contract of a function that does nothing.
-ghost use Rattle.std.specs.Prelude.{Bool, List, ◌≡◌};
+ghost use Rattle.std.specs.Prelude.{Bool, true, false, List, [], ◌∷◌, ◌≡◌};
 ghost use Rattle.svsm_types.specs.declared.call.Regs.{Regs};
 ghost use Rattle.svsm_steps.specs.declared.call.Caller.{Caller};
 ghost use Rattle.svsm_steps.specs.declared.call.Do.{Do};
+ghost use Rattle.svsm_steps.specs.declared.call.Do.TheVariants.{Reply};
 ghost use Rattle.svsm_calls.specs.Dialogue.{Dialogue, Asked, AreListed, LeadsTo, IsWhole};
 ghost use Rattle.svsm_calls.specs.Calls.{whole_call};
 ghost use Rattle.svsm_calls.specs.Sequences.{IsCall};
 ghost use Rattle.svsm_calls.specs.Formed.{IsCaller, AsksFormed};
 ghost use Rattle.svsm_calls.specs.Prefixes.{Agree, answers_of, CanEnd};
+ghost use Rattle.svsm_calls.specs.Worked.{caller, regs, of_the_module, stopped_at_two, one_deposit, one_withdrawal, empty_pool};
 
 /// A call asks its whole sequences and no others, where each answer is one that the step table lists.
 pub fn asks_its_sequences()
@@ -47,5 +49,25 @@ pub fn fixes_the_next_step()
 pub fn asks_well_formed_steps()
     ensures { (pend : Bool) (caller : Caller) (regs : Regs) → IsCaller caller
         → AsksFormed caller.regions (whole_call pend caller regs) }
+{
+}
+
+/// Worked list calls, with the steps, answers, polls and replies that `specs/Worked` tells, as sequences and as what is asked.
+pub fn has_worked_calls()
+    ensures page_of_the_module {
+        IsCall true caller (regs 1 0x21000) of_the_module (false ∷ []) (Reply (regs 0x80000003 0x21000))
+        × IsWhole (whole_call true caller (regs 1 0x21000)) of_the_module (false ∷ []) (Reply (regs 0x80000003 0x21000)) }
+    ensures stopped {
+        IsCall true caller (regs 1 0x21000) stopped_at_two (false ∷ true ∷ []) (Reply (regs 0x80000000 0x21000))
+        × IsWhole (whole_call true caller (regs 1 0x21000)) stopped_at_two (false ∷ true ∷ []) (Reply (regs 0x80000000 0x21000)) }
+    ensures deposited {
+        IsCall true caller (regs 4 0x21000) one_deposit [] (Reply (regs 0 0x21000))
+        × IsWhole (whole_call true caller (regs 4 0x21000)) one_deposit [] (Reply (regs 0 0x21000)) }
+    ensures withdrawn {
+        IsCall true caller (regs 5 0x21000) one_withdrawal [] (Reply (regs 0 1))
+        × IsWhole (whole_call true caller (regs 5 0x21000)) one_withdrawal [] (Reply (regs 0 1)) }
+    ensures from_an_empty_pool {
+        IsCall true caller (regs 5 0x21000) empty_pool [] (Reply (regs 0 0))
+        × IsWhole (whole_call true caller (regs 5 0x21000)) empty_pool [] (Reply (regs 0 0)) }
 {
 }
