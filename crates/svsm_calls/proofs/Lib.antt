@@ -5,3 +5,5 @@ pub mod Whole
 pub mod Prefix
 pub mod FormedLemmas
 pub mod Rows
+pub mod Leads
+pub mod Bounds

@@ -18,7 +18,7 @@ use Rattle.svsm_calls.proofs.Walks.{is_gives}
 use Rattle.svsm_calls.proofs.Whole.{call_sound, call_complete}
 
 -- an answer of each step
-usual : Step → Answer
+pub usual : Step → Answer
 usual (GuestRead vmpl gpa) = Word 0
 usual (LoadWord vmpl gpa) = Word 0
 usual (TakePending vmpl gpa) = Word 0
@@ -27,7 +27,7 @@ usual (PoolPop size) = Empty 0
 usual (Enter apic) = Unknown
 usual _ = Done
 
-usual_listed : (step : Step) → IsTrue (is_listed step (usual step))
+pub usual_listed : (step : Step) → IsTrue (is_listed step (usual step))
 unfolding usual
 usual_listed (Enter apic) = refl
 usual_listed _ = refl
@@ -59,7 +59,7 @@ prefix_of (poll rest) now pairs more (stops ∷ polls) also outcome h t = prefix
 prefix_of (reply regs) now pairs more polls also outcome h t = rw (h.0, h.1) (subst (λ (e : Dialogue). IsWhole e more also outcome) h.2 t)
 prefix_of spurious now pairs more polls also outcome h t = rw (h.0, h.1) (subst (λ (e : Dialogue). IsWhole e more also outcome) h.2 t)
 
-listed_both : (pairs more : List Asked) → AreListed pairs → AreListed more → AreListed (pairs ++ more)
+pub listed_both : (pairs more : List Asked) → AreListed pairs → AreListed more → AreListed (pairs ++ more)
 listed_both [] more a b = b
 listed_both (asked ∷ pairs) more a b = (a.0, listed_both pairs more a.1 b)
 

@@ -1,9 +1,16 @@
 //! Laws that tie the definitions together. Each is the contract of a function that does nothing.
-ghost use Rattle.std.specs.Prelude.{Bool, true, false, List, [], ◌∷◌, ◌≡◌};
+ghost use Rattle.std.specs.Prelude.{Bool, true, false, List, [], ◌∷◌, ◌≡◌, ◌≤◌, ℕ, length};
 ghost use Rattle.svsm_types.specs.declared.call.Regs.{Regs};
+ghost use Rattle.svsm_types.specs.declared.image.Image.{Image};
+ghost use Rattle.svsm_types.specs.declared.request.Request.{Request};
 ghost use Rattle.svsm_steps.specs.declared.call.Caller.{Caller};
 ghost use Rattle.svsm_steps.specs.declared.call.Do.{Do};
 ghost use Rattle.svsm_steps.specs.declared.call.Do.TheVariants.{Reply};
+ghost use Rattle.svsm_steps.specs.declared.outcome.Outcome.{Outcome};
+ghost use Rattle.svsm_steps.specs.declared.outcome.CoreEnd.{CoreEnd};
+ghost use Rattle.svsm_calls.specs.Events.{Made, Event};
+ghost use Rattle.svsm_calls.specs.CoreRun.{IsPiece, IsCutOff};
+ghost use Rattle.svsm_calls.specs.Run.{IsStarted};
 ghost use Rattle.svsm_calls.specs.Dialogue.{Dialogue, Asked, AreListed, LeadsTo, IsWhole};
 ghost use Rattle.svsm_calls.specs.Calls.{whole_call};
 ghost use Rattle.svsm_calls.specs.Sequences.{IsCall};
@@ -69,5 +76,16 @@ pub fn has_worked_calls()
     ensures from_an_empty_pool {
         IsCall true caller (regs 5 0x21000) empty_pool [] (Reply (regs 0 0))
         × IsWhole (whole_call true caller (regs 5 0x21000)) empty_pool [] (Reply (regs 0 0)) }
+{
+}
+
+/// A request makes at most 2,049 entries, also where a fault cuts it off, and a core with at most 128 requests at most 262,274.
+pub fn bounds_the_entries()
+    ensures request { (caller : Caller) (request : Request) (made : List Made) (events : List Event) (outcome : Outcome)
+        → IsPiece caller request made events outcome → length made ≤ 2049 }
+    ensures cut_off { (caller : Caller) (request : Request) (made : List Made) (events : List Event) (ticket : ℕ)
+        → IsCutOff caller request made events ticket → length made ≤ 2049 }
+    ensures core { (image : Image) (core : ℕ) (script : List Request) (made : List Made) (outcomes : List Outcome) (end : CoreEnd)
+        → length script ≤ 128 → IsStarted image core script made outcomes end → length made ≤ 262274 }
 {
 }
