@@ -7,3 +7,4 @@ pub mod FormedLemmas
 pub mod Rows
 pub mod Leads
 pub mod Bounds
+pub mod Readings
