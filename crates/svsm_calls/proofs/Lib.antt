@@ -8,3 +8,4 @@ pub mod Rows
 pub mod Leads
 pub mod Bounds
 pub mod Readings
+pub mod OneRun

@@ -2,15 +2,19 @@
 ghost use Rattle.std.specs.Prelude.{Bool, true, false, List, [], ◌∷◌, ◌≡◌, ◌≤◌, ℕ, length};
 ghost use Rattle.svsm_types.specs.declared.call.Regs.{Regs};
 ghost use Rattle.svsm_types.specs.declared.image.Image.{Image};
+ghost use Rattle.svsm_types.specs.declared.image.HostLine.{HostLine};
 ghost use Rattle.svsm_types.specs.declared.request.Request.{Request};
 ghost use Rattle.svsm_steps.specs.declared.call.Caller.{Caller};
 ghost use Rattle.svsm_steps.specs.declared.call.Do.{Do};
 ghost use Rattle.svsm_steps.specs.declared.call.Do.TheVariants.{Reply};
 ghost use Rattle.svsm_steps.specs.declared.outcome.Outcome.{Outcome};
 ghost use Rattle.svsm_steps.specs.declared.outcome.CoreEnd.{CoreEnd};
+ghost use Rattle.svsm_steps.specs.declared.outcome.CoreRun.{CoreRun};
+ghost use Rattle.svsm_steps.specs.declared.entry.Entry.{Entry};
 ghost use Rattle.svsm_calls.specs.Events.{Made, Event};
-ghost use Rattle.svsm_calls.specs.CoreRun.{IsPiece, IsCutOff};
-ghost use Rattle.svsm_calls.specs.Run.{IsStarted};
+ghost use Rattle.svsm_calls.specs.CoreRun.{IsPiece, IsCutOff, IsCoreRun};
+ghost use Rattle.svsm_calls.specs.World.{fresh_world, AreGiven};
+ghost use Rattle.svsm_calls.specs.Run.{IsStarted, IsRun};
 ghost use Rattle.svsm_calls.specs.Dialogue.{Dialogue, Asked, AreListed, LeadsTo, IsWhole};
 ghost use Rattle.svsm_calls.specs.Calls.{whole_call};
 ghost use Rattle.svsm_calls.specs.Sequences.{IsCall};
@@ -87,5 +91,22 @@ pub fn bounds_the_entries()
         → IsCutOff caller request made events ticket → length made ≤ 2049 }
     ensures core { (image : Image) (core : ℕ) (script : List Request) (made : List Made) (outcomes : List Outcome) (end : CoreEnd)
         → length script ≤ 128 → IsStarted image core script made outcomes end → length made ≤ 262274 }
+{
+}
+
+/// Entries, image and scripts fix the outcomes and the ends: two readings of one list of entries as a core's run, as what a core
+/// of a wave made, or as a run give the same.
+pub fn fixes_what_cores_give()
+    ensures core_run { (lines : List HostLine) (core : ℕ) (caller : Caller) (script : List Request) (made : List Made)
+        (events others : List Event) (outcomes later : List Outcome) (end ending : CoreEnd)
+        → IsCoreRun caller script made events outcomes end → IsCoreRun caller script made others later ending
+        → AreGiven lines core fresh_world events → AreGiven lines core fresh_world others
+        → (outcomes ≡ later) × (end ≡ ending) }
+    ensures started { (image : Image) (core : ℕ) (script : List Request) (made : List Made) (outcomes later : List Outcome)
+        (end ending : CoreEnd)
+        → IsStarted image core script made outcomes end → IsStarted image core script made later ending
+        → (outcomes ≡ later) × (end ≡ ending) }
+    ensures run { (image : Image) (scripts : List (List Request)) (entries : List Entry) (cores others : List CoreRun)
+        → IsRun image scripts entries cores → IsRun image scripts entries others → cores ≡ others }
 {
 }
