@@ -9,3 +9,4 @@ pub mod Leads
 pub mod Bounds
 pub mod Readings
 pub mod OneRun
+pub mod OneWave

@@ -1,5 +1,5 @@
 -- The entries of a run fix which cores were in waves, and so what each core gave.
-use Rattle.std.proofs.Common.{◌≡◌, ℕ, ◌+◌, arith, Bool, true, false, List, [], ◌∷◌, ◌++◌, ap, subst, sym, ◌∙◌, refl}
+use Rattle.std.proofs.Common.{◌≡◌, ℕ, ◌+◌, arith, Bool, true, false, List, [], ◌∷◌, ap, subst, sym, ◌∙◌, refl}
 use Rattle.std.proofs.lemmas.List.Folds.{list_any-append}
 use Rattle.std.proofs.lemmas.Bool.Decides.{nat_tests}
 use Rattle.std.specs.Prelude.{IsTrue, map, ◌==◌, ◌||◌, ◌&&◌}
@@ -32,11 +32,11 @@ unfolding has_entries
 cores_of core [] = refl
 cores_of core (entry ∷ entries) = ap (λ (b : Bool). (entry.core == core) || b) (cores_of core entries)
 
-both_left : (a b : Bool) → IsTrue (a && b) → a ≡ true
+pub both_left : (a b : Bool) → IsTrue (a && b) → a ≡ true
 both_left true b h = refl
 both_left false b h = cc
 
-both_right : (a b : Bool) → IsTrue (a && b) → IsTrue b
+pub both_right : (a b : Bool) → IsTrue (a && b) → IsTrue b
 both_right true b h = h
 both_right false b h = cc
 
@@ -56,7 +56,7 @@ unfolding has_entries
 in_wave core cores [] all some = cc
 in_wave core cores (entry ∷ entries) all some =
     in_wave_by (entry.core == core) core cores entry entries refl (both_left _ _ all)
-      (λ more. in_wave core cores entries (both_right _ _ all) more) some
+    (λ more. in_wave core cores entries (both_right _ _ all) more) some
 
 or_same : (a b : Bool) → (b ≡ true → a ≡ true) → a ≡ (a || b)
 or_same true b h = refl
@@ -68,12 +68,12 @@ unfolding has_entries
 wave_cores image core cores entries wave =
     let p : Entry → Bool = λ (entry : Entry). entry.core == core in
     let firsts : is_among core cores ≡ has_entries core wave.first =
-        subst (λ (l : List ℕ). is_among core l ≡ has_entries core wave.first) wave.in_order (cores_of core wave.first) in
+    subst (λ (l : List ℕ). is_among core l ≡ has_entries core wave.first) wave.in_order (cores_of core wave.first) in
     let all : has_entries core entries ≡ (has_entries core wave.first || has_entries core wave.others) =
-        ap (λ (l : List Entry). list_any p l) wave.begin ∙ list_any-append p wave.first wave.others in
+    ap (λ (l : List Entry). list_any p l) wave.begin ∙ list_any-append p wave.first wave.others in
     let h : has_entries core entries ≡ true → is_among core cores ≡ true = in_wave core cores entries wave.of_cores in
     let others : has_entries core wave.others ≡ true → is_among core cores ≡ true =
-        λ e. h (all ∙ (rw e (or_true (has_entries core wave.first)))) in
+    λ e. h (all ∙ (rw e (or_true (has_entries core wave.first)))) in
     or_same (is_among core cores) (has_entries core wave.others) others
     ∙ ap (λ (b : Bool). b || has_entries core wave.others) firsts ∙ sym all
 
@@ -102,9 +102,9 @@ one_start image core script made outcomes later end ending h t =
     let area : h.caa ≡ t.caa = cc in
     let rest : h.rest ≡ t.rest = cc in
     let moved : IsCoreRun (caller_of image core h.caa) script t.rest t.events later ending =
-        subst (λ (caa : Gpa). IsCoreRun (caller_of image core caa) script t.rest t.events later ending) (sym area) t.run in
+    subst (λ (caa : Gpa). IsCoreRun (caller_of image core caa) script t.rest t.events later ending) (sym area) t.run in
     let run : IsCoreRun (caller_of image core h.caa) script h.rest t.events later ending =
-        subst (λ (l : List Made). IsCoreRun (caller_of image core h.caa) script l t.events later ending) (sym rest) moved in
+    subst (λ (l : List Made). IsCoreRun (caller_of image core h.caa) script l t.events later ending) (sym rest) moved in
     one_core_run image.host core (caller_of image core h.caa) script h.rest h.events t.events outcomes later end ending h.run run h.given t.given
 
 same_core_run : (run other : CoreRun) → run.core ≡ other.core → run.outcomes ≡ other.outcomes → run.end ≡ other.end → run ≡ other
@@ -131,7 +131,7 @@ one_list image scripts entries ran others same core (line ∷ lines) [] more h t
 one_list image scripts entries ran others same core (line ∷ lines) (run ∷ runs) [] h t = absurd t
 one_list image scripts entries ran others same core (line ∷ lines) (run ∷ runs) (other ∷ more) h t =
     let first : run ≡ other = one_core (is_among core ran) image core (script_of scripts core) (made_by core entries) run other h.0
-        (subst (λ (b : Bool). IsCore b image core (script_of scripts core) (made_by core entries) other) (sym (same core)) t.0) in
+    (subst (λ (b : Bool). IsCore b image core (script_of scripts core) (made_by core entries) other) (sym (same core)) t.0) in
     let rest : runs ≡ more = one_list image scripts entries ran others same (core + 1) lines runs more h.1 t.1 in
     ap (λ (l : List CoreRun). run ∷ l) rest ∙ ap (λ (c : CoreRun). c ∷ more) first
 
@@ -139,5 +139,5 @@ pub one_run : (image : Image) (scripts : List (List Request)) (entries : List En
     → IsRun image scripts entries cores → IsRun image scripts entries others → cores ≡ others
 one_run image scripts entries cores others h t =
     one_list image scripts entries h.ran t.ran
-      (λ core. ran_cores image core entries h.ran h.waves ∙ sym (ran_cores image core entries t.ran t.waves))
-      0 image.cores cores others h.each t.each
+    (λ core. ran_cores image core entries h.ran h.waves ∙ sym (ran_cores image core entries t.ran t.waves))
+    0 image.cores cores others h.each t.each

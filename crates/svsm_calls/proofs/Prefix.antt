@@ -72,7 +72,7 @@ can_end pend caller regs pairs polls now a h =
       also = r.polls;
       outcome = r.outcome;
       call = call_sound pend caller regs (pairs ++ r.pairs) (polls ++ r.polls) r.outcome (listed_both pairs r.pairs a r.listed)
-        (prefix_of (whole_call pend caller regs) now pairs r.pairs polls r.polls r.outcome h r.whole);
+          (prefix_of (whole_call pend caller regs) now pairs r.pairs polls r.polls r.outcome h r.whole);
     }
 
 -- steps by equal answers
@@ -85,18 +85,37 @@ pub one_way : (d now then : Dialogue) (pairs others : List Asked) (polls also : 
     → Agree (answers_of pairs) (answers_of others) → Agree polls also → Agree pairs others
 one_way (ask step rest) now then [] others polls also h t same agree = tt
 one_way (ask step rest) now then (x ∷ pairs) [] polls also h t same agree = tt
-one_way (ask step rest) now then (x ∷ pairs) (y ∷ others) polls also h t same agree =
-    (same_step x y step h.0 t.0 same.0,
-      one_way (rest x.answer) now then pairs others polls also h.1
-        (subst (λ (answer : Answer). LeadsTo (rest answer) others also then) (sym same.0) t.1) same.1 agree)
+one_way (ask step rest) now then (x ∷ pairs) (y ∷ others) polls also h t same agree = (
+  same_step x y step h.0 t.0 same.0,
+  one_way (rest x.answer) now then pairs others polls also h.1
+      (subst (λ (answer : Answer). LeadsTo (rest answer) others also then) (sym same.0) t.1) same.1 agree,
+)
 one_way (poll rest) now then pairs others [] also h t same agree = rw h.0 tt
 one_way (poll rest) now then [] others (b ∷ polls) [] h t same agree = tt
 one_way (poll rest) now then (x ∷ pairs) others (b ∷ polls) [] h t same agree = rw t.0 tt
 one_way (poll rest) now then pairs others (b ∷ polls) (c ∷ also) h t same agree =
     one_way (rest b) now then pairs others polls also h
-      (subst (λ (stops : Bool). LeadsTo (rest stops) others also then) (sym agree.0) t) same agree.1
+    (subst (λ (stops : Bool). LeadsTo (rest stops) others also then) (sym agree.0) t) same agree.1
 one_way (reply regs) now then pairs others polls also h t same agree = rw h.0 tt
 one_way spurious now then pairs others polls also h t same agree = rw h.0 tt
+
+-- and to the same dialogue
+pub one_now : (d now then : Dialogue) (pairs others : List Asked) (polls : List Bool)
+    → LeadsTo d pairs polls now → LeadsTo d others polls then → answers_of pairs ≡ answers_of others
+    → (pairs ≡ others) × (now ≡ then)
+one_now (ask step rest) now then [] [] polls h t same = (refl, h.1 ∙ sym t.1)
+one_now (ask step rest) now then [] (y ∷ others) polls h t same = cc
+one_now (ask step rest) now then (x ∷ pairs) [] polls h t same = cc
+one_now (ask step rest) now then (x ∷ pairs) (y ∷ others) polls h t same =
+    let answer : x.answer ≡ y.answer = cc in
+    let answers : answers_of pairs ≡ answers_of others = cc in
+    let r : (pairs ≡ others) × (now ≡ then) = one_now (rest x.answer) now then pairs others polls h.1
+        (subst (λ (a : Answer). LeadsTo (rest a) others polls then) (sym answer) t.1) answers in
+    (ap (λ (l : List Asked). x ∷ l) r.0 ∙ ap (λ (z : Asked). z ∷ others) (same_step x y step h.0 t.0 answer), r.1)
+one_now (poll rest) now then pairs others [] h t same = (h.0 ∙ sym t.0, h.1 ∙ sym t.1)
+one_now (poll rest) now then pairs others (b ∷ polls) h t same = one_now (rest b) now then pairs others polls h t same
+one_now (reply regs) now then pairs others polls h t same = (h.0 ∙ sym t.0, h.2 ∙ sym t.2)
+one_now spurious now then pairs others polls h t same = (h.0 ∙ sym t.0, h.2 ∙ sym t.2)
 
 -- and of two whole sequences none goes on where the other ends
 pub one_whole : (d : Dialogue) (pairs others : List Asked) (polls also : List Bool) (outcome end : Do)
@@ -108,13 +127,13 @@ one_whole (ask step rest) (x ∷ pairs) [] polls also outcome end h t same agree
 one_whole (ask step rest) (x ∷ pairs) (y ∷ others) polls also outcome end h t same agree =
     let is : x ≡ y = same_step x y step h.0 t.0 same.0 in
     let r : (pairs ≡ others) × (polls ≡ also) × (outcome ≡ end) = one_whole (rest x.answer) pairs others polls also outcome end h.1
-        (subst (λ (answer : Answer). IsWhole (rest answer) others also end) (sym same.0) t.1) same.1 agree in
+    (subst (λ (answer : Answer). IsWhole (rest answer) others also end) (sym same.0) t.1) same.1 agree in
     (ap (λ (l : List Asked). x ∷ l) r.0 ∙ ap (λ (z : Asked). z ∷ others) is, r.1, r.2)
 one_whole (poll rest) pairs others [] also outcome end h t same agree = absurd h
 one_whole (poll rest) pairs others (b ∷ polls) [] outcome end h t same agree = absurd t
 one_whole (poll rest) pairs others (b ∷ polls) (c ∷ also) outcome end h t same agree =
     let r : (pairs ≡ others) × (polls ≡ also) × (outcome ≡ end) = one_whole (rest b) pairs others polls also outcome end h
-        (subst (λ (stops : Bool). IsWhole (rest stops) others also end) (sym agree.0) t) same agree.1 in
+    (subst (λ (stops : Bool). IsWhole (rest stops) others also end) (sym agree.0) t) same agree.1 in
     (r.0, ap (λ (l : List Bool). b ∷ l) r.1 ∙ ap (λ (z : Bool). z ∷ also) agree.0, r.2)
 one_whole (reply regs) pairs others polls also outcome end h t same agree = (h.0 ∙ sym t.0, h.1 ∙ sym t.1, h.2 ∙ sym t.2)
 one_whole spurious pairs others polls also outcome end h t same agree = (h.0 ∙ sym t.0, h.1 ∙ sym t.1, h.2 ∙ sym t.2)
@@ -125,4 +144,4 @@ pub one_call : (pend : Bool) (caller : Caller) (regs : Regs) (pairs others : Lis
     → (pairs ≡ others) × (polls ≡ also) × (outcome ≡ end)
 one_call pend caller regs pairs others polls also outcome end h t same agree =
     one_whole (whole_call pend caller regs) pairs others polls also outcome end
-      (call_complete pend caller regs pairs polls outcome h).0 (call_complete pend caller regs others also end t).0 same agree
+    (call_complete pend caller regs pairs polls outcome h).0 (call_complete pend caller regs others also end t).0 same agree

@@ -13,14 +13,14 @@ use Rattle.svsm_steps.specs.State.{State, Constants, word_at}
 use Rattle.svsm_steps.specs.Machine.{next, state_after}
 use Rattle.svsm_calls.specs.Codes.{incomplete}
 use Rattle.svsm_calls.specs.Lists.{entries_of, next_of}
-use Rattle.svsm_calls.specs.Dialogue.{Asked, ◌gives◌}
+use Rattle.svsm_calls.specs.Dialogue.{Asked, ◌gives◌, AreListed}
 use Rattle.svsm_calls.specs.Calls.{ListCall, End, whole}
 use Rattle.svsm_calls.specs.Sequences.{loads_header, listed, IsWalk}
 
 abbrev pub asked_by : List Entry → List Asked
 asked_by entries = map (λ (entry : Entry). entry.step gives entry.answer) entries
 
--- a list call of a history: the load of its header, and its walk
+-- a list call of a history: the load of its header, and its walk. No step of it faulted
 pub record CallMade (call : ListCall) (list : ℕ) : Type 0 where
   pub caller : Caller
   pub regs : Regs
@@ -32,6 +32,7 @@ pub record CallMade (call : ListCall) (list : ℕ) : Type 0 where
   pub on_list : regs.rcx ≡ list
   pub loads : load.step gives load.answer ≡ loads_header caller regs gives Word header
   pub walk : IsWalk (listed call caller regs header) (entries_of header) (asked_by rest) polls (Reply reply)
+  pub listed_answers : AreListed (asked_by rest)
 
 -- the entries of these calls, one call after another
 abbrev pub entries_by : {call : ListCall} {list : ℕ} → List (CallMade call list) → List Entry
