@@ -10,3 +10,4 @@ pub mod Bounds
 pub mod Readings
 pub mod OneRun
 pub mod OneWave
+pub mod Progress

@@ -7,6 +7,7 @@ pub mod Prefixes
 pub mod Formed
 pub mod Events
 pub mod CoreRun
+pub mod Progress
 pub mod World
 pub mod Waves
 pub mod Run
