@@ -11,3 +11,4 @@ pub mod Readings
 pub mod OneRun
 pub mod OneWave
 pub mod Progress
+pub mod Ending

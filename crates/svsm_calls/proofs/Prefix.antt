@@ -32,14 +32,14 @@ unfolding usual
 usual_listed (Enter apic) = refl
 usual_listed _ = refl
 
-record Completes (d : Dialogue) : Type 0 where
-  pairs : List Asked
-  polls : List Bool
-  outcome : Do
-  listed : AreListed pairs
-  whole : IsWhole d pairs polls outcome
+pub record Completes (d : Dialogue) : Type 0 where
+  pub pairs : List Asked
+  pub polls : List Bool
+  pub outcome : Do
+  pub listed : AreListed pairs
+  pub whole : IsWhole d pairs polls outcome
 
-completes : (d : Dialogue) → Completes d
+pub completes : (d : Dialogue) → Completes d
 completes (ask step rest) =
     let r : Completes (rest (usual step)) = completes (rest (usual step)) in
     record { pairs = step gives usual step ∷ r.pairs; polls = r.polls; outcome = r.outcome; listed = (usual_listed step, r.listed); whole = (refl, r.whole) }

@@ -21,7 +21,7 @@ use Rattle.svsm_steps.specs.Formed.{is_listed}
 use Rattle.svsm_calls.specs.Dialogue.{Dialogue, ask, poll, reply, spurious, Asked, ◌gives◌, first_of, rest_of, LeadsTo, IsWhole}
 use Rattle.svsm_calls.specs.Calls.{whole_call}
 use Rattle.svsm_calls.specs.Events.{Made, pairs_of, Event, started, polled, sent, Happen}
-use Rattle.svsm_calls.specs.CoreRun.{area_by, area_after, caller_after, call_outcome, IsRunRequest, is_call, ArePieces, none, one_more, done, faulted, host}
+use Rattle.svsm_calls.specs.CoreRun.{area_by, area_after, caller_after, call_outcome, IsPiece, IsRunRequest, is_call, ArePieces, none, one_more, done, faulted, host}
 use Rattle.svsm_calls.specs.Progress.{InCall, IsOver, IsFaulted, HasPiece, HasFault, HasHost, Behind, Extends}
 use Rattle.svsm_calls.proofs.Leads.{leads_here, answer_here, poll_here, leads_on}
 use Rattle.svsm_calls.proofs.Prefix.{listed_both}
@@ -201,6 +201,22 @@ module _ {World : Type 0} (happens : World → Event → World → Type 0) where
     happened = happen_all runs (started number ∷ map polled is.polls) before asked after ran (began, start, is.happened);
     run = run;
     cut_off = is.cut_off;
+  }
+
+  -- a request of one step, or of none
+  pub step_piece : (now : Caller) (due : Bool) (request : Request) (runs : List Event) (steps old new : List Made) (before after : World) (outcome : Outcome)
+      → IsRunRequest now due runs → Happen happens runs before after → new ≡ old ++ steps → IsPiece now request steps [] outcome
+      → now.caa ≡ area_after now.caa steps
+      → HasPiece happens now due request old new before after now.caa outcome
+  step_piece now due request runs steps old new before after outcome run ran made piece area_is = record {
+    steps = steps;
+    runs = runs;
+    asked = [];
+    made = made;
+    happened = happen_all runs [] before after after ran refl;
+    run = run;
+    piece = piece;
+    area_is = area_is;
   }
 
   -- ALL REQUESTS
