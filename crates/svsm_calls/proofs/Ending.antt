@@ -73,10 +73,10 @@ some_call pend caller regs number steps polls now a h =
     let can : CanEnd pend caller regs (pairs_of steps) polls = can_end pend caller regs (pairs_of steps) polls now a h in
     let made : List Made = steps ++ made_from can.more in
     let call : IsCall pend caller regs (pairs_of made) (polls ++ can.also) can.outcome =
-        subst (λ (l : List Asked). IsCall pend caller regs l (polls ++ can.also) can.outcome) (sym (pairs_on steps can.more)) can.call in
+    subst (λ (l : List Asked). IsCall pend caller regs l (polls ++ can.also) can.outcome) (sym (pairs_on steps can.more)) can.call in
     let out : (outcome : Outcome) × (call_outcome can.outcome ≡ Some outcome) =
-        whole_outcome (whole_call pend caller regs) (pairs_of made) (polls ++ can.also) can.outcome
-          (call_complete pend caller regs (pairs_of made) (polls ++ can.also) can.outcome call).0 in
+    whole_outcome (whole_call pend caller regs) (pairs_of made) (polls ++ can.also) can.outcome
+    (call_complete pend caller regs (pairs_of made) (polls ++ can.also) can.outcome call).0 in
     record {
       more = made_from can.more;
       others = map polled can.also;
@@ -96,8 +96,8 @@ new_call pend caller regs number =
     let d : Dialogue = whole_call pend caller regs in
     let c : Completes d = completes d in
     let call : IsCall pend caller regs (pairs_of (made_from c.pairs)) c.polls c.outcome =
-        subst (λ (l : List Asked). IsCall pend caller regs l c.polls c.outcome) (sym (pairs_from c.pairs))
-          (call_sound pend caller regs c.pairs c.polls c.outcome c.listed c.whole) in
+    subst (λ (l : List Asked). IsCall pend caller regs l c.polls c.outcome) (sym (pairs_from c.pairs))
+    (call_sound pend caller regs c.pairs c.polls c.outcome c.listed c.whole) in
     let out : (outcome : Outcome) × (call_outcome c.outcome ≡ Some outcome) = whole_outcome d c.pairs c.polls c.outcome c.whole in
     record {
       more = made_from c.pairs;
@@ -126,23 +126,23 @@ some_piece caller (requests.Exit regs number) =
     record { more = c.more; others = c.others; outcome = c.outcome; piece = c.piece }
 some_piece caller (requests.Write vmpl gpa word) =
     let c : SomeStep caller (page_of gpa.0) (GuestWrite vmpl gpa word) =
-        some_step caller (page_of gpa.0) (GuestWrite vmpl gpa word) answers.Done outcomes.Done refl refl (is_in_map caller.regions (page_of gpa.0)) refl in
+    some_step caller (page_of gpa.0) (GuestWrite vmpl gpa word) answers.Done outcomes.Done refl refl (is_in_map caller.regions (page_of gpa.0)) refl in
     record { more = c.more; others = []; outcome = c.outcome; piece = c.piece }
 some_piece caller (requests.Read vmpl gpa) =
     let c : SomeStep caller (page_of gpa.0) (GuestRead vmpl gpa) =
-        some_step caller (page_of gpa.0) (GuestRead vmpl gpa) answers.Denied outcomes.Denied refl refl (is_in_map caller.regions (page_of gpa.0)) refl in
+    some_step caller (page_of gpa.0) (GuestRead vmpl gpa) answers.Denied outcomes.Denied refl refl (is_in_map caller.regions (page_of gpa.0)) refl in
     record { more = c.more; others = []; outcome = c.outcome; piece = c.piece }
 some_piece caller (requests.Adjust vmpl page target mask) =
     let c : SomeStep caller page.0 (GuestAdjust vmpl page target mask) =
-        some_step caller page.0 (GuestAdjust vmpl page target mask) answers.Done outcomes.Done refl refl (is_in_map caller.regions page.0) refl in
+    some_step caller page.0 (GuestAdjust vmpl page target mask) answers.Done outcomes.Done refl refl (is_in_map caller.regions page.0) refl in
     record { more = c.more; others = []; outcome = c.outcome; piece = c.piece }
 some_piece caller (requests.Share page) =
     let c : SomeStep caller page.0 (HostShare page) =
-        some_step caller page.0 (HostShare page) answers.Done outcomes.Done refl refl (is_in_map caller.regions page.0) refl in
+    some_step caller page.0 (HostShare page) answers.Done outcomes.Done refl refl (is_in_map caller.regions page.0) refl in
     record { more = c.more; others = []; outcome = c.outcome; piece = c.piece }
 some_piece caller (requests.Assign page) =
     let c : SomeStep caller page.0 (HostAssign page) =
-        some_step caller page.0 (HostAssign page) answers.Done outcomes.Done refl refl (is_in_map caller.regions page.0) refl in
+    some_step caller page.0 (HostAssign page) answers.Done outcomes.Done refl refl (is_in_map caller.regions page.0) refl in
     record { more = c.more; others = []; outcome = c.outcome; piece = c.piece }
 
 -- ALL REQUESTS
@@ -165,9 +165,9 @@ gone_on caller script other made steps events asked same c = record {
   outcomes = c.outcomes;
   end = c.end;
   run =
-    subst (λ (l : List Request). IsCoreRun caller l (made ++ (steps ++ c.more)) (events ++ (asked ++ c.others)) c.outcomes c.end) same
+      subst (λ (l : List Request). IsCoreRun caller l (made ++ (steps ++ c.more)) (events ++ (asked ++ c.others)) c.outcomes c.end) same
       (subst (λ (l : List Made). IsCoreRun caller script l (events ++ (asked ++ c.others)) c.outcomes c.end) (append_assoc made steps c.more)
-        (subst (λ (l : List Event). IsCoreRun caller script ((made ++ steps) ++ c.more) l c.outcomes c.end) (append_assoc events asked c.others) c.run));
+      (subst (λ (l : List Event). IsCoreRun caller script ((made ++ steps) ++ c.more) l c.outcomes c.end) (append_assoc events asked c.others) c.run));
 }
 
 -- the requests so far
@@ -175,7 +175,7 @@ pub can_run : (caller : Caller) (script : List Request) (made : List Made) (even
     (after : List Request) → ArePieces caller script made events outs now due → CanRun caller (script ++ after) made events
 can_run caller script made events outs now due [] h =
     let run : IsCoreRun caller script (made ++ record { ticket = 0; step = Leave caller.apic; answer = answers.Done } ∷ []) events outs ends.Done =
-        done made events outs now due 0 answers.Done h refl in
+    done made events outs now due 0 answers.Done h refl in
     record {
       more = record { ticket = 0; step = Leave caller.apic; answer = answers.Done } ∷ [];
       others = [];
@@ -187,8 +187,8 @@ can_run caller script made events outs now due (request ∷ after) h =
     let p : SomePiece now request [] [] = some_piece now request in
     let runs : List Event = some_runs now due in
     gone_on caller ((script ++ request ∷ []) ++ after) (script ++ request ∷ after) made p.more events (runs ++ p.others) (append_assoc script (request ∷ []) after)
-      (can_run caller (script ++ request ∷ []) (made ++ p.more) (events ++ (runs ++ p.others)) (outs ++ p.outcome ∷ []) (caller_after now p.more) (is_call request) after
-        (one_more script made events outs now due request p.more runs p.others p.outcome h (are_runs now due) p.piece))
+    (can_run caller (script ++ request ∷ []) (made ++ p.more) (events ++ (runs ++ p.others)) (outs ++ p.outcome ∷ []) (caller_after now p.more) (is_call request) after
+    (one_more script made events outs now due request p.more runs p.others p.outcome h (are_runs now due) p.piece))
 
 -- and a request under way, with the run request before it
 can_run_piece : (caller : Caller) (script : List Request) (made : List Made) (events : List Event) (outs : List Outcome) (now : Caller) (due : Bool)
@@ -197,13 +197,13 @@ can_run_piece : (caller : Caller) (script : List Request) (made : List Made) (ev
     → CanRun caller (script ++ request ∷ after) (made ++ steps) (events ++ (runs ++ asked))
 can_run_piece caller script made events outs now due request after runs asked steps h run p =
     gone_on caller ((script ++ request ∷ []) ++ after) (script ++ request ∷ after) (made ++ steps) p.more (events ++ (runs ++ asked)) p.others
-      (append_assoc script (request ∷ []) after)
-      (subst (λ (l : List Made). CanRun caller ((script ++ request ∷ []) ++ after) l ((events ++ (runs ++ asked)) ++ p.others)) (sym (append_assoc made steps p.more))
-        (subst (λ (l : List Event). CanRun caller ((script ++ request ∷ []) ++ after) (made ++ (steps ++ p.more)) l)
-          (ap (λ (l : List Event). events ++ l) (sym (append_assoc runs asked p.others)) ∙ sym (append_assoc events (runs ++ asked) p.others))
-          (can_run caller (script ++ request ∷ []) (made ++ (steps ++ p.more)) (events ++ (runs ++ (asked ++ p.others))) (outs ++ p.outcome ∷ [])
-            (caller_after now (steps ++ p.more)) (is_call request) after
-            (one_more script made events outs now due request (steps ++ p.more) runs (asked ++ p.others) p.outcome h run p.piece))))
+    (append_assoc script (request ∷ []) after)
+    (subst (λ (l : List Made). CanRun caller ((script ++ request ∷ []) ++ after) l ((events ++ (runs ++ asked)) ++ p.others)) (sym (append_assoc made steps p.more))
+    (subst (λ (l : List Event). CanRun caller ((script ++ request ∷ []) ++ after) (made ++ (steps ++ p.more)) l)
+    (ap (λ (l : List Event). events ++ l) (sym (append_assoc runs asked p.others)) ∙ sym (append_assoc events (runs ++ asked) p.others))
+    (can_run caller (script ++ request ∷ []) (made ++ (steps ++ p.more)) (events ++ (runs ++ (asked ++ p.others))) (outs ++ p.outcome ∷ [])
+    (caller_after now (steps ++ p.more)) (is_call request) after
+    (one_more script made events outs now due request (steps ++ p.more) runs (asked ++ p.others) p.outcome h run p.piece))))
 
 -- nothing of the request was made yet
 pub can_run_sent : (caller : Caller) (script : List Request) (made : List Made) (events : List Event) (outs : List Outcome) (now : Caller) (due : Bool)
@@ -212,7 +212,7 @@ pub can_run_sent : (caller : Caller) (script : List Request) (made : List Made) 
     → CanRun caller (script ++ request ∷ after) made (events ++ runs)
 can_run_sent caller script made events outs now due request after runs h run =
     let c : CanRun caller (script ++ request ∷ after) (made ++ []) (events ++ (runs ++ [])) =
-        can_run_piece caller script made events outs now due request after runs [] [] h run (some_piece now request) in
+    can_run_piece caller script made events outs now due request after runs [] [] h run (some_piece now request) in
     rw (append-nil made, append-nil runs) at c
 
 -- a call was begun
@@ -224,7 +224,7 @@ pub can_run_call : (caller : Caller) (script : List Request) (made : List Made) 
 can_run_call caller script made events outs now due regs number after runs steps polls left h run listed leads =
     let c : SomeCall true now regs number steps (started number ∷ map polled polls) = some_call true now regs number steps polls left listed leads in
     can_run_piece caller script made events outs now due (requests.Call regs number) after runs (started number ∷ map polled polls) steps h run
-      (record { more = c.more; others = c.others; outcome = c.outcome; piece = c.piece })
+    (record { more = c.more; others = c.others; outcome = c.outcome; piece = c.piece })
 
 -- an exit was begun
 pub can_run_exit : (caller : Caller) (script : List Request) (made : List Made) (events : List Event) (outs : List Outcome) (now : Caller) (due : Bool)
@@ -235,4 +235,4 @@ pub can_run_exit : (caller : Caller) (script : List Request) (made : List Made) 
 can_run_exit caller script made events outs now due regs number after runs steps polls left h run listed leads =
     let c : SomeCall false now regs number steps (started number ∷ map polled polls) = some_call false now regs number steps polls left listed leads in
     can_run_piece caller script made events outs now due (requests.Exit regs number) after runs (started number ∷ map polled polls) steps h run
-      (record { more = c.more; others = c.others; outcome = c.outcome; piece = c.piece })
+    (record { more = c.more; others = c.others; outcome = c.outcome; piece = c.piece })

@@ -12,3 +12,4 @@ pub mod OneRun
 pub mod OneWave
 pub mod Progress
 pub mod Ending
+pub mod Success

@@ -110,6 +110,8 @@ cores_more image scripts entries ran core [] [] line run h is =
 cores_more image scripts entries ran core [] (other ∷ runs) line run h is = absurd h
 cores_more image scripts entries ran core (first ∷ lines) [] line run h is = absurd h
 cores_more image scripts entries ran core (first ∷ lines) (other ∷ runs) line run h is =
-    let same : core + length (first ∷ lines) ≡ (core + 1) + length lines = omega arith in
-    (h.0, cores_more image scripts entries ran (core + 1) lines runs line run h.1
-      (subst (λ (c : ℕ). IsCore (is_among c ran) image c (script_of scripts c) (made_by c entries) run) same is))
+    let same : core + length (first ∷ lines) ≡ (core + 1) + length lines = omega arith in (
+      h.0,
+      cores_more image scripts entries ran (core + 1) lines runs line run h.1
+          (subst (λ (c : ℕ). IsCore (is_among c ran) image c (script_of scripts c) (made_by c entries) run) same is),
+    )

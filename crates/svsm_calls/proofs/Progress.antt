@@ -115,7 +115,7 @@ module _ {World : Type 0} (happens : World → Event → World → Type 0) where
       made = is.made;
       happened = is.happened;
       call = call_sound pend caller regs (pairs_of is.steps) is.polls end is.listed
-        (leads_over (whole_call pend caller regs) left (pairs_of is.steps) is.polls end is.leads whole);
+          (leads_over (whole_call pend caller regs) left (pairs_of is.steps) is.polls end is.leads whole);
       area_is = is.area_is;
     }
 

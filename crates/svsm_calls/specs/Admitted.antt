@@ -1,6 +1,6 @@
 -- Admitted call: a call whose checks all hold, and whose steps were not refused. This module's own.
-use Rattle.std.specs.Prelude.{◌≡◌, ℕ, Bool, true, false, ◌&&◌, ◌==◌, if◌then◌else◌, IsTrue, Option, None, Some, Ok, List, [], ◌∷◌}
-use Rattle.std.specs.List.{list_any}
+use Rattle.std.specs.Prelude.{◌≡◌, ℕ, Bool, true, false, ◌&&◌, ◌==◌, if◌then◌else◌, not, IsTrue, Option, None, Some, Ok, List, [], ◌∷◌}
+use Rattle.std.specs.List.{list_any, list_all}
 use Rattle.svsm_types.specs.declared.call.Regs.{Regs}
 use Rattle.svsm_types.specs.declared.call.Call.{Call}
 use Rattle.svsm_types.specs.declared.call.Call.TheVariants.{Remap, Pvalidate, Create, Delete, Deposit, Withdraw, Query}
@@ -9,6 +9,9 @@ use Rattle.svsm_steps.specs.declared.step.Step.TheVariants.{GuestPend, TakePendi
 use Rattle.svsm_steps.specs.declared.answer.Answer.{Answer}
 use Rattle.svsm_steps.specs.declared.answer.Answer.TheVariants.{Word, Refused, Unchanged, Hw, BadVmsa, Strange, Taken, Unknown, Running}
 use Rattle.svsm_steps.specs.declared.call.Caller.{Caller}
+use Rattle.svsm_steps.specs.declared.call.Do.{Do}
+use Rattle.svsm_steps.specs.declared.call.Do.TheVariants.{Reply}
+use Rattle.svsm_calls.specs.Codes.{success}
 use Rattle.svsm_calls.specs.Lists.{has_bit, address_refusal, is_usable, is_size, page_refusal}
 use Rattle.svsm_calls.specs.Dialogue.{Asked}
 use Rattle.svsm_calls.specs.Calls.{create_refusal, decoded, is_pending}
@@ -80,3 +83,12 @@ pub record IsAdmitted (caller : Caller) (regs : Regs) (pairs : List Asked) : Typ
   pub pending : IsTrue (list_any (λ (asked : Asked). takes_call asked.step asked.answer) pairs)
   pub registers : IsTrue (are_registers_good call caller regs)
   pub steps : IsTrue (are_steps_good call caller regs 0 pairs)
+
+-- no poll of a call stopped it
+abbrev pub none_stops : List Bool → Bool
+none_stops polls = list_all not polls
+
+-- a call replied success
+abbrev pub Succeeds : Do → Type 0
+Succeeds (Reply regs) = regs.rax ≡ success
+Succeeds _ = ⊥

@@ -1,5 +1,5 @@
 //! Laws that tie the definitions together. Each is the contract of a function that does nothing.
-ghost use Rattle.std.specs.Prelude.{Bool, true, false, List, [], ◌∷◌, ◌≡◌, ◌≤◌, ℕ, length};
+ghost use Rattle.std.specs.Prelude.{Bool, true, false, List, [], ◌∷◌, ◌≡◌, ◌≤◌, ℕ, length, IsTrue};
 ghost use Rattle.svsm_types.specs.declared.call.Regs.{Regs};
 ghost use Rattle.svsm_types.specs.declared.image.Image.{Image};
 ghost use Rattle.svsm_types.specs.declared.image.HostLine.{HostLine};
@@ -19,6 +19,7 @@ ghost use Rattle.svsm_calls.specs.Dialogue.{Dialogue, Asked, AreListed, LeadsTo,
 ghost use Rattle.svsm_calls.specs.Calls.{whole_call};
 ghost use Rattle.svsm_calls.specs.Sequences.{IsCall};
 ghost use Rattle.svsm_calls.specs.Formed.{IsCaller, AsksFormed};
+ghost use Rattle.svsm_calls.specs.Admitted.{IsAdmitted, none_stops, Succeeds};
 ghost use Rattle.svsm_calls.specs.Prefixes.{Agree, answers_of, CanEnd};
 ghost use Rattle.svsm_calls.specs.Worked.{caller, regs, of_the_module, stopped_at_two, one_deposit, one_withdrawal, empty_pool};
 
@@ -107,4 +108,11 @@ pub fn fixes_what_cores_give()
 pub fn happens_as_given()
     ensures { (lines : List HostLine) (core : ℕ) (events : List Event) (old new : Scripted)
         → Happen (Gives lines core) events old new → AreGiven lines core old events }
+{}
+
+/// An admitted call that no poll stopped and no fault ended replies success.
+pub fn admitted_calls_succeed()
+    ensures { (pend : Bool) (caller : Caller) (regs : Regs) (pairs : List Asked) (polls : List Bool) (outcome : Do)
+        → IsCall pend caller regs pairs polls outcome → IsAdmitted caller regs pairs → IsTrue (none_stops polls)
+        → Succeeds outcome }
 {}
