@@ -16,6 +16,7 @@ use Rattle.svsm_calls.specs.Lists.{has_bit, address_refusal, is_usable, is_size,
 use Rattle.svsm_calls.specs.Dialogue.{Asked}
 use Rattle.svsm_calls.specs.Calls.{create_refusal, decoded, is_pending}
 
+-- a check that refuses nothing
 abbrev pub is_good : Option ℕ → Bool
 is_good None = true
 is_good (Some code) = false
@@ -59,6 +60,7 @@ abbrev pub fetched : ℕ → Step → Answer → ℕ
 fetched word (LoadWord vmpl gpa) (Word now) = now
 fetched word _ _ = word
 
+-- a step that fetched a word, which passes the checks of the call; any other step fetched none
 abbrev pub is_fetch_good : Call → Caller → Regs → Step → Answer → Bool
 is_fetch_good call caller regs (LoadWord vmpl gpa) (Word word) = is_word_good call caller regs gpa.0 word
 is_fetch_good call caller regs _ _ = true

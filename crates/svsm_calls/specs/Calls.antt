@@ -96,10 +96,12 @@ abbrev pub on_released : Listed → ℕ → ℕ → (Option ℕ → Dialogue) �
 on_released w j left performed (Strange owner) = finish w j (Some left) (failed invalid_address)
 on_released w j left performed _ = performed (Some left)
 
+-- what follows the store of the entry: the block is released, or pushed back
 abbrev pub on_filled : Listed → ℕ → Page → Size → ℕ → (Option ℕ → Dialogue) → Answer → Dialogue
 on_filled w j page size left performed Done = ask (Release w.caller.vmpl page size) (on_released w j left performed)
 on_filled w j page size left performed _ = ask (PoolPush page size) (λ answer. finish w j (left_by answer) (failed invalid_address))
 
+-- what follows the pop: the entry is stored, or the walk ends without failure
 abbrev pub on_popped : Listed → ℕ → Size → (Option ℕ → Dialogue) → Answer → Dialogue
 on_popped w j size performed (Block page left) =
     ask (StoreEntry w.caller.vmpl (entry_at w.regs.rcx j) (block_entry page size)) (on_filled w j page size left performed)
@@ -156,6 +158,7 @@ abbrev pub past : Option ℕ → (ℕ → Dialogue) → Dialogue → Dialogue
 past None refuse rest = rest
 past (Some code) refuse rest = refuse code
 
+-- a list call: the list lies in the map, at a multiple of 8, and then its header is loaded, once
 abbrev pub list_call : ListCall → Caller → Regs → Dialogue
 list_call call caller regs =
     past (address_refusal caller.regions 8 regs.rcx) (refuse_list call regs)
@@ -176,6 +179,7 @@ abbrev pub on_cleared : Caller → Regs → Answer → Dialogue
 on_cleared caller regs Done = ask (Remap caller.apic (record { 0 = regs.rcx })) (λ answer. replies regs success)
 on_cleared caller regs _ = replies regs invalid_address
 
+-- the new area lies in the map, at a multiple of 8
 abbrev pub remap_call : Caller → Regs → Dialogue
 remap_call caller regs =
     past (address_refusal caller.regions 8 regs.rcx) (replies regs)
@@ -185,18 +189,22 @@ remap_call caller regs =
 abbrev pub vmsa_page : Regs → Page
 vmsa_page regs = record { 0 = regs.rcx / 2 ^ 12 }
 
+-- a creation that fails removes its row
 abbrev pub cancel : Regs → ℕ → Dialogue
 cancel regs code = ask (Cancel (vmsa_page regs)) (λ answer. replies regs code)
 
+-- a page that became a VMSA makes its vCPU ready; one whose words admit none is an invalid parameter
 abbrev pub on_vmsa : Regs → Answer → Dialogue
 on_vmsa regs Done = ask (Commit (vmsa_page regs)) (λ answer. replies regs success)
 on_vmsa regs BadVmsa = cancel regs invalid_parameter
 on_vmsa regs _ = cancel regs invalid_address
 
+-- past the clearing of the calling area the page is taken
 abbrev pub on_area : Caller → Regs → Answer → Dialogue
 on_area caller regs Done = ask (VmsaTake caller.vmpl (vmsa_page regs) caller.features) (on_vmsa regs)
 on_area caller regs _ = cancel regs invalid_address
 
+-- past the reservation the calling area is cleared; an unknown core, or a row that stands already, is an invalid parameter
 abbrev pub on_reserved : Caller → Regs → Answer → Dialogue
 on_reserved caller regs Done = ask (ClearCaa caller.vmpl (record { 0 = regs.rdx })) (on_area caller regs)
 on_reserved caller regs _ = replies regs invalid_parameter
@@ -212,6 +220,7 @@ create_refusal caller regs =
     or_else (address_refusal caller.regions 4096 regs.rcx)
     (or_else (address_refusal caller.regions 4096 regs.rdx) (if regs.rcx == regs.rdx then Some invalid_parameter else None))
 
+-- the registers are checked, and a row is reserved
 abbrev pub create_call : Caller → Regs → Dialogue
 create_call caller regs =
     past (create_refusal caller regs) (replies regs)
@@ -222,11 +231,13 @@ abbrev pub on_dropped : Regs → Answer → Dialogue
 on_dropped regs (Strange owner) = replies regs invalid_address
 on_dropped regs _ = replies regs success
 
+-- a vCPU that runs is busy; one that is not there is an invalid parameter; else its page is dropped
 abbrev pub on_retired : Caller → Regs → Answer → Dialogue
 on_retired caller regs Done = ask (VmsaDrop caller.vmpl (vmsa_page regs)) (on_dropped regs)
 on_retired caller regs Running = replies regs busy
 on_retired caller regs _ = replies regs invalid_parameter
 
+-- the VMSA lies in the map, at the start of a page, and its row is retired
 abbrev pub delete_call : Caller → Regs → Dialogue
 delete_call caller regs =
     past (address_refusal caller.regions 4096 regs.rcx) (replies regs)
@@ -251,6 +262,7 @@ abbrev pub decoded : Regs → Result Call Code
 decoded regs =
     if nat_lt 0 (regs.rax / 2 ^ 32) then Err (record { 0 = unsupported_protocol }) else call_numbered (regs.rax % 2 ^ 32)
 
+-- the dialogue of each call of the core protocol
 abbrev pub call_of : Call → Caller → Regs → Dialogue
 call_of calls.Remap caller regs = remap_call caller regs
 call_of calls.Pvalidate caller regs = list_call pvalidate caller regs
@@ -269,10 +281,12 @@ on_decoded caller regs (Err code) = replies regs code.0
 abbrev pub is_pending : ℕ → Bool
 is_pending word = nat_lt 0 (word % 2 ^ 8)
 
+-- where the pending byte could not be taken, or was 0, there was no call
 abbrev pub on_taken : Caller → Regs → Answer → Dialogue
 on_taken caller regs (Word word) = if is_pending word then on_decoded caller regs (decoded regs) else spurious
 on_taken caller regs _ = spurious
 
+-- an exit of the guest takes the pending byte of its calling area
 abbrev pub exit_call : Caller → Regs → Dialogue
 exit_call caller regs = ask (TakePending caller.vmpl caller.caa) (on_taken caller regs)
 

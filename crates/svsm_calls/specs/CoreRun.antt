@@ -25,14 +25,17 @@ use Rattle.svsm_calls.specs.Events.{Made, pairs_of, Event, started, polled, sent
 
 -- THE CALLING AREA: the one of Enter, and after a Remap the new one
 
+-- after a step
 abbrev pub area_by : Step → Gpa → Gpa
 area_by (Remap apic caa) area = caa
 area_by _ area = area
 
+-- after steps
 abbrev pub area_after : Gpa → List Made → Gpa
 area_after area [] = area
 area_after area (m ∷ made) = area_after (area_by m.step area) made
 
+-- a caller is the same but for its calling area
 abbrev pub caller_after : Caller → List Made → Caller
 caller_after caller made = record caller { caa = area_after caller.caa made }
 

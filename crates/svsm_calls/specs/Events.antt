@@ -12,6 +12,7 @@ pub record Made : Type 0 where
   pub step : Step
   pub answer : Answer
 
+-- an entry, without its core and place
 abbrev pub made_of : Entry → Made
 made_of entry = record { ticket = entry.ticket; step = entry.step; answer = entry.answer }
 

@@ -58,6 +58,7 @@ entry_page word = record { 0 = word / 2 ^ 12 }
 abbrev pub is_size : ℕ → Bool
 is_size word = nat_lt (word % 4) 2
 
+-- 4K or 2M
 abbrev pub size_of : ℕ → Size
 size_of word = if word % 4 == 0 then Small else Large
 

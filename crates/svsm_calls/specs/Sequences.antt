@@ -21,17 +21,19 @@ use Rattle.svsm_calls.specs.Calls.{ListCall, pvalidate, deposit, withdraw, Liste
 
 -- LISTS
 
--- the load of entry j, and that load with the word that it gave
+-- the load of entry j
 abbrev pub loads : Listed → ℕ → Step
 loads w j = LoadWord w.caller.vmpl (entry_at w.regs.rcx j)
 
+-- that load with the word that it gave
 abbrev pub loaded : Listed → ℕ → ℕ → Asked
 loaded w j word = loads w j gives Word word
 
--- the step of each list call on the page that an entry names
+-- PVALIDATE validates the page that the entry names, or takes that back, by bit 2
 abbrev pub validates : Listed → ℕ → Step
 validates w word = Validate w.caller.vmpl (entry_page word) (size_of word) (has_bit 4 word)
 
+-- DEPOSIT_MEM takes the page in deposit
 abbrev pub deposits : Listed → ℕ → Step
 deposits w word = Deposit w.caller.vmpl (entry_page word) (size_of word)
 
@@ -111,6 +113,7 @@ pub data IsEnd (w : Listed) (n : ℕ) : ℕ → ℕ → End → List Asked → L
       (m k word left : ℕ) → k < n → w.call ≡ withdraw → is_size word ≡ true
       → IsEnd w n k m dry (loaded w k word ∷ PoolPop (size_of word) gives Empty left ∷ []) (replicate m false)
 
+-- the later of two numbers, if it is there
 abbrev pub or_before : Option ℕ → Option ℕ → Option ℕ
 or_before None before = before
 or_before (Some now) before = Some now
@@ -146,6 +149,7 @@ pub record IsWalk (w : Listed) (n : ℕ) (pairs : List Asked) (polls : List Bool
   pub avails : IsAvail w.caller (pool_left None (joined parts ++ tail)) avail
   pub replied : outcome ≡ Reply (list_reply w.call w.regs (length parts) (reply_code end stored))
 
+-- the load of the header, which lies at the address of the list
 abbrev pub loads_header : Caller → Regs → Step
 loads_header caller regs = LoadWord caller.vmpl (list_of regs)
 
@@ -184,13 +188,15 @@ pub data IsRemap (caller : Caller) (regs : Regs) : List Asked → ℕ → Type 0
       (ClearCaa caller.vmpl (record { 0 = regs.rcx }) gives Done ∷ Remap caller.apic (record { 0 = regs.rcx }) gives answer ∷ [])
       success
 
--- the steps of CREATE_VCPU
+-- CREATE_VCPU reserves a row for the APIC id, the VMSA and the calling area
 abbrev pub reserves : Regs → Step
 reserves regs = Reserve (regs.r8 % 2 ^ 32) (vmsa_page regs) (record { 0 = regs.rdx })
 
+-- the first word of the calling area is cleared
 abbrev pub clears : Caller → Regs → Step
 clears caller regs = ClearCaa caller.vmpl (record { 0 = regs.rdx })
 
+-- the page becomes a VMSA
 abbrev pub takes : Caller → Regs → Step
 takes caller regs = VmsaTake caller.vmpl (vmsa_page regs) caller.features
 
@@ -254,6 +260,7 @@ IsPlainCall Is caller regs pairs polls outcome =
 abbrev pub IsReply : Regs → List Asked → List Bool → Do → Type 0
 IsReply reply pairs polls outcome = (pairs ≡ []) × (polls ≡ []) × (outcome ≡ Reply reply)
 
+-- the sequences of each call, and those of a decoding error, whose code is RAX
 abbrev pub IsDecoded : Result Call Code → Caller → Regs → List Asked → List Bool → Do → Type 0
 IsDecoded (Err code) caller regs pairs polls outcome = IsReply (with_rax regs code.0) pairs polls outcome
 IsDecoded (Ok calls.Query) caller regs pairs polls outcome = IsReply (query_reply regs) pairs polls outcome
@@ -264,6 +271,7 @@ IsDecoded (Ok calls.Pvalidate) caller regs pairs polls outcome = IsListCall pval
 IsDecoded (Ok calls.Deposit) caller regs pairs polls outcome = IsListCall deposit caller regs pairs polls outcome
 IsDecoded (Ok calls.Withdraw) caller regs pairs polls outcome = IsListCall withdraw caller regs pairs polls outcome
 
+-- the pending byte of the calling area is taken
 abbrev pub takes_pending : Caller → Step
 takes_pending caller = TakePending caller.vmpl caller.caa
 

@@ -11,15 +11,19 @@ use Rattle.svsm_steps.specs.declared.answer.Answer.TheVariants.{Done, Word, Refu
 use Rattle.svsm_steps.specs.declared.call.Caller.{Caller}
 use Rattle.svsm_calls.specs.Dialogue.{Asked, ◌gives◌}
 
+-- the guest runs at VMPL 2
 abbrev pub vmpl : Vmpl
 vmpl = record { 0 = 2 }
 
+-- an address
 abbrev pub at : ℕ → Gpa
 at address = record { 0 = address }
 
+-- a page
 abbrev pub page : ℕ → Page
 page number = record { 0 = number }
 
+-- core 0 calls
 abbrev pub caller : Caller
 caller = record { core = 0; apic = 0; vmpl = vmpl; caa = at 0x20000; regions = 2; features = 1 }
 
