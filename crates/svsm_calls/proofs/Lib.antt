@@ -13,3 +13,4 @@ pub mod OneWave
 pub mod Progress
 pub mod Ending
 pub mod Success
+pub mod SmallRun

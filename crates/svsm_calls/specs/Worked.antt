@@ -1,13 +1,27 @@
 -- Worked calls: the steps of a few list calls, with their answers, as they stand in the histories of runs. The list lies at 0x21000,
 -- the calling area at 0x20000, and the map has two regions. This module's own.
-use Rattle.std.specs.Prelude.{ℕ, true, false, List, [], ◌∷◌}
+use Rattle.std.specs.Prelude.{ℕ, Bool, true, false, Option, None, Some, List, [], ◌∷◌}
 use Rattle.svsm_types.specs.declared.address.Page.{Page}
 use Rattle.svsm_types.specs.declared.address.Gpa.{Gpa}
+use Rattle.svsm_types.specs.declared.owner.Owner.{Owner}
+use Rattle.svsm_types.specs.declared.owner.Owner.TheVariants.{Guest, Module, Vmsa}
+use Rattle.svsm_types.specs.declared.platform.HwState.{HwState}
+use Rattle.svsm_types.specs.declared.platform.HwState.TheVariants.{Assigned, Valid}
+use Rattle.svsm_types.specs.declared.image.Range.{Range}
+use Rattle.svsm_types.specs.declared.image.Image.{Image}
+use Rattle.svsm_types.specs.declared.request.Request.{Request}
+use Rattle.svsm_types.specs.declared.request.Request.TheVariants.{Call}
 use Rattle.svsm_types.specs.declared.platform.Vmpl.{Vmpl}
 use Rattle.svsm_types.specs.declared.platform.Size.TheVariants.{Small}
 use Rattle.svsm_types.specs.declared.call.Regs.{Regs}
-use Rattle.svsm_steps.specs.declared.step.Step.TheVariants.{GuestPend, TakePending, LoadWord, StoreNext, StoreEntry, SetAvail, Validate, Deposit, Release, PoolPush, PoolPop}
-use Rattle.svsm_steps.specs.declared.answer.Answer.TheVariants.{Done, Word, Refused, Held, Block, Empty}
+use Rattle.svsm_steps.specs.declared.step.Step.{Step}
+use Rattle.svsm_steps.specs.declared.step.Step.TheVariants.{GuestPend, TakePending, LoadWord, StoreNext, StoreEntry, SetAvail, Validate, Deposit, Release, PoolPush, PoolPop, Enter, Leave}
+use Rattle.svsm_steps.specs.declared.answer.Answer.{Answer}
+use Rattle.svsm_steps.specs.declared.answer.Answer.TheVariants.{Done, Word, Refused, Held, Block, Empty, Seen}
+use Rattle.svsm_steps.specs.declared.entry.Entry.{Entry}
+use Rattle.svsm_steps.specs.declared.outcome.Outcome.TheVariants.{Reply}
+use Rattle.svsm_steps.specs.declared.outcome.CoreEnd.TheVariants as ends
+use Rattle.svsm_steps.specs.declared.outcome.CoreRun.{CoreRun}
 use Rattle.svsm_steps.specs.declared.call.Caller.{Caller}
 use Rattle.svsm_calls.specs.Dialogue.{Asked, ◌gives◌}
 
@@ -78,3 +92,46 @@ empty_pool =
     (LoadWord vmpl (at 0x21000) gives Word 1
     ∷ LoadWord vmpl (at 0x21008) gives Word 0 ∷ PoolPop Small gives Empty 0
     ∷ StoreNext vmpl (at 0x21000) 0 gives Done ∷ SetAvail vmpl (at 0x20000) false gives Done ∷ [])
+
+-- THE RUN OF A SMALL IMAGE: two regions, one vCPU whose VMSA is page 0x10 and whose calling area is at 0x20000, and a parked core
+
+abbrev pub range : ℕ → ℕ → Owner → HwState → ℕ → Range
+range first count owner state rights = record { first = page first; count = count; owner = owner; state = state; rights = rights }
+
+abbrev pub small_image : Image
+small_image = record {
+  regions = 2;
+  vmpl = vmpl;
+  features = 1;
+  ghcb = page 0x5;
+  ranges =
+    range 0x0 0x5 Module Valid 0 ∷ (range 0x5 0x1 Module Assigned 0 ∷ (range 0x6 0xa Module Valid 0 ∷ (range 0x10 0x1 Vmsa Valid 0
+    ∷ (range 0x11 0x1ef Guest Valid 0xf0 ∷ (range 0x200 0x200 Guest Assigned 0 ∷ [])))));
+  large = [];
+  accepts = [];
+  cores = record { apic = 0; seat = Some (page 0x10, at 0x20000) } ∷ (record { apic = 1; seat = None } ∷ []);
+  fills = [];
+  faults = [];
+  host = [];
+}
+
+-- core 0 asks for version 1 of the core protocol
+abbrev pub one_query : List (List Request)
+one_query = (Call (regs 6 1) 0 ∷ []) ∷ []
+
+abbrev pub entry : ℕ → ℕ → Step → Answer → Entry
+entry ticket place step answer = record { ticket = ticket; core = 0; place = place; step = step; answer = answer }
+
+-- core 0 enters, calls and leaves
+abbrev pub query_entries : List Entry
+query_entries =
+    entry 0 3 (Enter 0) (Seen (page 0x10) (at 0x20000))
+    ∷ (entry 1 0 (GuestPend vmpl (at 0x20000)) Done
+    ∷ (entry 2 0 (TakePending vmpl (at 0x20000)) (Word 1)
+    ∷ (entry 3 3 (Leave 0) Done ∷ [])))
+
+-- the version is there, and core 1 is in no wave
+abbrev pub query_cores : List CoreRun
+query_cores =
+    record { core = 0; outcomes = Reply (regs 0 0x100000001) ∷ []; end = ends.Done }
+    ∷ (record { core = 1; outcomes = []; end = ends.Unstarted } ∷ [])

@@ -21,7 +21,7 @@ ghost use Rattle.svsm_calls.specs.Sequences.{IsCall};
 ghost use Rattle.svsm_calls.specs.Formed.{IsCaller, AsksFormed};
 ghost use Rattle.svsm_calls.specs.Admitted.{IsAdmitted, none_stops, Succeeds};
 ghost use Rattle.svsm_calls.specs.Prefixes.{Agree, answers_of, CanEnd};
-ghost use Rattle.svsm_calls.specs.Worked.{caller, regs, of_the_module, stopped_at_two, one_deposit, one_withdrawal, empty_pool};
+ghost use Rattle.svsm_calls.specs.Worked.{caller, regs, of_the_module, stopped_at_two, one_deposit, one_withdrawal, empty_pool, small_image, one_query, query_entries, query_cores};
 
 /// A call asks its whole sequences and no others, where each answer is one that the step table lists.
 pub fn asks_its_sequences()
@@ -115,4 +115,9 @@ pub fn admitted_calls_succeed()
     ensures { (pend : Bool) (caller : Caller) (regs : Regs) (pairs : List Asked) (polls : List Bool) (outcome : Do)
         → IsCall pend caller regs pairs polls outcome → IsAdmitted caller regs pairs → IsTrue (none_stops polls)
         → Succeeds outcome }
+{}
+
+/// A run of a small image, with its entries and outcomes as `specs/Worked` tells them.
+pub fn has_a_worked_run()
+    ensures { IsRun small_image one_query query_entries query_cores }
 {}
