@@ -1,6 +1,6 @@
 -- Worked calls: the steps of a few list calls, with their answers, as they stand in the histories of runs. The list lies at 0x21000,
 -- the calling area at 0x20000, and the map has two regions. This module's own.
-use Rattle.std.specs.Prelude.{ℕ, Bool, true, false, Option, None, Some, List, [], ◌∷◌}
+use Rattle.std.specs.Prelude.{ℕ, true, false, None, Some, List, [], ◌∷◌}
 use Rattle.svsm_types.specs.declared.address.Page.{Page}
 use Rattle.svsm_types.specs.declared.address.Gpa.{Gpa}
 use Rattle.svsm_types.specs.declared.owner.Owner.{Owner}
@@ -9,6 +9,7 @@ use Rattle.svsm_types.specs.declared.platform.HwState.{HwState}
 use Rattle.svsm_types.specs.declared.platform.HwState.TheVariants.{Assigned, Valid}
 use Rattle.svsm_types.specs.declared.image.Range.{Range}
 use Rattle.svsm_types.specs.declared.image.Image.{Image}
+use Rattle.svsm_types.specs.declared.image.HostLine.TheVariants.{Run}
 use Rattle.svsm_types.specs.declared.request.Request.{Request}
 use Rattle.svsm_types.specs.declared.request.Request.TheVariants.{Call}
 use Rattle.svsm_types.specs.declared.platform.Vmpl.{Vmpl}
@@ -17,7 +18,7 @@ use Rattle.svsm_types.specs.declared.call.Regs.{Regs}
 use Rattle.svsm_steps.specs.declared.step.Step.{Step}
 use Rattle.svsm_steps.specs.declared.step.Step.TheVariants.{GuestPend, TakePending, LoadWord, StoreNext, StoreEntry, SetAvail, Validate, Deposit, Release, PoolPush, PoolPop, Enter, Leave}
 use Rattle.svsm_steps.specs.declared.answer.Answer.{Answer}
-use Rattle.svsm_steps.specs.declared.answer.Answer.TheVariants.{Done, Word, Refused, Held, Block, Empty, Seen}
+use Rattle.svsm_steps.specs.declared.answer.Answer.TheVariants.{Done, Word, Refused, Held, Block, Empty, Seen, Fault}
 use Rattle.svsm_steps.specs.declared.entry.Entry.{Entry}
 use Rattle.svsm_steps.specs.declared.outcome.Outcome.TheVariants.{Reply}
 use Rattle.svsm_steps.specs.declared.outcome.CoreEnd.TheVariants as ends
@@ -105,8 +106,8 @@ small_image = record {
   features = 1;
   ghcb = page 0x5;
   ranges =
-    range 0x0 0x5 Module Valid 0 ∷ (range 0x5 0x1 Module Assigned 0 ∷ (range 0x6 0xa Module Valid 0 ∷ (range 0x10 0x1 Vmsa Valid 0
-    ∷ (range 0x11 0x1ef Guest Valid 0xf0 ∷ (range 0x200 0x200 Guest Assigned 0 ∷ [])))));
+      range 0x0 0x5 Module Valid 0 ∷ (range 0x5 0x1 Module Assigned 0 ∷ (range 0x6 0xa Module Valid 0 ∷ (range 0x10 0x1 Vmsa Valid 0
+      ∷ (range 0x11 0x1ef Guest Valid 0xf0 ∷ (range 0x200 0x200 Guest Assigned 0 ∷ [])))));
   large = [];
   accepts = [];
   cores = record { apic = 0; seat = Some (page 0x10, at 0x20000) } ∷ (record { apic = 1; seat = None } ∷ []);
@@ -134,4 +135,31 @@ query_entries =
 abbrev pub query_cores : List CoreRun
 query_cores =
     record { core = 0; outcomes = Reply (regs 0 0x100000001) ∷ []; end = ends.Done }
+    ∷ (record { core = 1; outcomes = []; end = ends.Unstarted } ∷ [])
+
+-- the same image, where the host refuses the first run request of core 0: it enters, and no more
+abbrev pub refusing_image : Image
+refusing_image = record small_image { host = Run 0 0 0x100000017 ∷ [] }
+
+abbrev pub refused_entries : List Entry
+refused_entries = entry 0 3 (Enter 0) (Seen (page 0x10) (at 0x20000)) ∷ []
+
+abbrev pub refused_cores : List CoreRun
+refused_cores =
+    record { core = 0; outcomes = []; end = ends.Host 0x200000016 0x100000017 }
+    ∷ (record { core = 1; outcomes = []; end = ends.Unstarted } ∷ [])
+
+-- the same image, where operation 0 of region 0 faults: the pending byte is not taken, and core 0 does not leave
+abbrev pub faulting_image : Image
+faulting_image = record small_image { faults = record { region = 0; number = 0 } ∷ [] }
+
+abbrev pub faulted_entries : List Entry
+faulted_entries =
+    entry 0 3 (Enter 0) (Seen (page 0x10) (at 0x20000))
+    ∷ (entry 1 0 (GuestPend vmpl (at 0x20000)) Done
+    ∷ (entry 2 0 (TakePending vmpl (at 0x20000)) (Fault 0) ∷ []))
+
+abbrev pub faulted_cores : List CoreRun
+faulted_cores =
+    record { core = 0; outcomes = []; end = ends.Faulted 2 }
     ∷ (record { core = 1; outcomes = []; end = ends.Unstarted } ∷ [])

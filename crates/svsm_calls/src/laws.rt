@@ -21,7 +21,7 @@ ghost use Rattle.svsm_calls.specs.Sequences.{IsCall};
 ghost use Rattle.svsm_calls.specs.Formed.{IsCaller, AsksFormed};
 ghost use Rattle.svsm_calls.specs.Admitted.{IsAdmitted, none_stops, Succeeds};
 ghost use Rattle.svsm_calls.specs.Prefixes.{Agree, answers_of, CanEnd};
-ghost use Rattle.svsm_calls.specs.Worked.{caller, regs, of_the_module, stopped_at_two, one_deposit, one_withdrawal, empty_pool, small_image, one_query, query_entries, query_cores};
+ghost use Rattle.svsm_calls.specs.Worked.{caller, regs, of_the_module, stopped_at_two, one_deposit, one_withdrawal, empty_pool, small_image, one_query, query_entries, query_cores, refusing_image, refused_entries, refused_cores, faulting_image, faulted_entries, faulted_cores};
 
 /// A call asks its whole sequences and no others, where each answer is one that the step table lists.
 pub fn asks_its_sequences()
@@ -117,7 +117,10 @@ pub fn admitted_calls_succeed()
         → Succeeds outcome }
 {}
 
-/// A run of a small image, with its entries and outcomes as `specs/Worked` tells them.
-pub fn has_a_worked_run()
-    ensures { IsRun small_image one_query query_entries query_cores }
+/// Runs of a small image, with their entries and outcomes as `specs/Worked` tells them: one to its end, one whose host refuses
+/// a run request, and one in which an operation faults.
+pub fn has_worked_runs()
+    ensures to_its_end { IsRun small_image one_query query_entries query_cores }
+    ensures refused { IsRun refusing_image one_query refused_entries refused_cores }
+    ensures faulted { IsRun faulting_image one_query faulted_entries faulted_cores }
 {}

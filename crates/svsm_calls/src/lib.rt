@@ -9,5 +9,5 @@ mod laws;
 pub use laws::{
     admitted_calls_succeed, asks_its_sequences, asks_prefixes, asks_well_formed_steps,
     bounds_the_entries, fixes_the_next_step, fixes_what_cores_give, happens_as_given,
-    has_a_worked_run, has_worked_calls,
+    has_worked_calls, has_worked_runs,
 };
