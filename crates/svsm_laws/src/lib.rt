@@ -3,6 +3,7 @@
 //! Each law is the contract of a function with an empty body; its statement stands in `specs/`.
 #![tactic(auto)]
 
+ghost use Rattle.svsm_laws.specs.Ownership.{StepsKeepShut, EntriesKeepShut, KeepsOwnership, ShutIsSafe};
 ghost use Rattle.svsm_laws.specs.Runs.{RunsGoOn, PlatformsAreFollowed};
 
 /// A run with an entry that its last state allows is a run.
@@ -13,4 +14,24 @@ pub fn runs_go_on()
 /// A run that follows its platform still does with an entry that faults where it is due to.
 pub fn platforms_are_followed()
     ensures { PlatformsAreFollowed }
+{}
+
+/// Each micro-operation of a well-formed step keeps the pages that the module owns shut.
+pub fn steps_keep_shut()
+    ensures { StepsKeepShut }
+{}
+
+/// So does each that an entry made, with any answer.
+pub fn entries_keep_shut()
+    ensures { EntriesKeepShut }
+{}
+
+/// From a shut state, no entries with well-formed steps ever let the guest reach a page that the module owns.
+pub fn keeps_ownership()
+    ensures { KeepsOwnership }
+{}
+
+/// In a shut state no VMPL of the guest reaches a page that the module owns.
+pub fn shut_is_safe()
+    ensures { ShutIsSafe }
 {}
