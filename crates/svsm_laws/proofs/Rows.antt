@@ -41,7 +41,7 @@ covered_all test none Small i index xs full h c =
     subst (λ k. test (get_or xs k none) ≡ true) (eqb-true i index c) (and_parts (test (get_or xs i none)) true h).0
 covered_all test none Large i index xs full h c = all_listed test none xs index h (omega (arith, ltb-true index 512 c))
 
-same_owner-eq : (a b : Owner) → same_owner a b ≡ true → a ≡ b
+pub same_owner-eq : (a b : Owner) → same_owner a b ≡ true → a ≡ b
 same_owner-eq Guest Guest h = refl
 same_owner-eq Module Module h = refl
 same_owner-eq Pool Pool h = refl
@@ -87,7 +87,7 @@ set_none (x ∷ xs) (suc i) zero (inr e) = e
 set_none (x ∷ xs) (suc i) (suc j) (inl e) = set_none xs i j (inl (omega arith))
 set_none (x ∷ xs) (suc i) (suc j) (inr e) = set_none xs i j (inr e)
 
-by_vmpl : (P : ℕ → Type 0) → P 0 → P 1 → P 2 → (vmpl : ℕ) → 1 ≤ vmpl → vmpl ≤ 3 → P (vmpl - 1)
+pub by_vmpl : (P : ℕ → Type 0) → P 0 → P 1 → P 2 → (vmpl : ℕ) → 1 ≤ vmpl → vmpl ≤ 3 → P (vmpl - 1)
 by_vmpl P p q r zero low high = absurd (omega arith)
 by_vmpl P p q r (suc zero) low high = p
 by_vmpl P p q r (suc (suc zero)) low high = q
@@ -118,7 +118,7 @@ adjusted_shut : (to : ℕ) (c : Cell) → IsShut c → IsShut (adjusted to 0 c)
 adjusted_shut to c h vmpl other low high = set_shut c.rights (to - 1) (vmpl - 1) (h vmpl other low high)
 
 -- a page of the guest is shut, whatever its rights
-guest_shut : (c : Cell) → c.owner ≡ Guest → IsShut c
+pub guest_shut : (c : Cell) → c.owner ≡ Guest → IsShut c
 guest_shut c e vmpl other low high = absurd (other e)
 
 -- a page whose rights are none
@@ -129,7 +129,7 @@ none_shut owner vmpl other low high =
 -- the rows, of one page, which each micro-operation covers or none
 
 -- a page that no micro-operation covers
-untouched : (micros : List Micro) (c : Cell) → IsShut c → IsShutAlong (λ _ _. false) micros c
+pub untouched : (micros : List Micro) (c : Cell) → IsShut c → IsShutAlong (λ _ _. false) micros c
 untouched [] c h = h
 untouched (read address ∷ micros) c h = (h, untouched micros c h)
 untouched (write address word ∷ micros) c h = (h, untouched micros c h)
@@ -222,10 +222,10 @@ adjust : (b : Bool) (c : Cell) (page target mask : ℕ) → IsShut c → (b ≡ 
 adjust true c page target mask h g = (h, guest_shut _ (g refl))
 adjust false c page target mask h g = untouched (adjust_row page target mask) c h
 
-abbrev assigned_row : Size → ℕ → Bool → List Micro
+abbrev pub assigned_row : Size → ℕ → Bool → List Micro
 assigned_row size page on = assign size page on ∷ []
 
-assigned : (b : Bool) (c : Cell) (size : Size) (page : ℕ) (on : Bool) → IsShut c
+pub assigned : (b : Bool) (c : Cell) (size : Size) (page : ℕ) (on : Bool) → IsShut c
     → IsShutAlong (λ _ _. b) (assigned_row size page on) c
 assigned true c size page on h = (h, none_shut c.owner)
 assigned false c size page on h = untouched (assigned_row size page on) c h
@@ -233,7 +233,7 @@ assigned false c size page on h = untouched (assigned_row size page on) c h
 -- the rows, of a region
 
 -- the owner of a covered page, where all are of one owner
-owner_covered : (owner : Owner) (size : Size) (page index : ℕ) (r : RegionState) → IsSized r
+pub owner_covered : (owner : Owner) (size : Size) (page index : ℕ) (r : RegionState) → IsSized r
     → all_owned owner size page r ≡ true → covers size (index_of page) index ≡ true
     → get_or r.owner index Guest ≡ owner
 owner_covered owner size page index r z h c =

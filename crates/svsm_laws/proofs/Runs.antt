@@ -13,11 +13,13 @@ use Rattle.svsm_laws.specs.Runs.{numbers_after_all, IsNextEntry, IsDue, RunsGoOn
 pub state_after-append : (constants : Constants) (state : State) (first second : List Entry)
     → state_after constants state (first ++ second) ≡ state_after constants (state_after constants state first) second
 state_after-append constants state [] second = refl
-state_after-append constants state (entry ∷ first) second = state_after-append constants (next constants state entry) first second
+state_after-append constants state (entry ∷ first) second =
+    state_after-append constants (next constants state entry) first second
 
 pub numbers_after_all-append : (constants : Constants) (numbers : ℕ → Numbers) (state : State) (first second : List Entry)
     → numbers_after_all constants numbers state (first ++ second)
-    ≡ numbers_after_all constants (numbers_after_all constants numbers state first) (state_after constants state first) second
+    ≡ numbers_after_all constants (numbers_after_all constants numbers state first)
+    (state_after constants state first) second
 numbers_after_all-append constants numbers state [] second = refl
 numbers_after_all-append constants numbers state (entry ∷ first) second =
     numbers_after_all-append constants (numbers_after (kind entry.step) constants numbers state entry.step entry.answer)
@@ -38,7 +40,8 @@ run-append constants n state (entry ∷ first) second h k =
         (
           h.1.1.0,
           run-append constants (n + 1) (next constants state entry) first second h.1.1.1
-              (subst (λ (m : ℕ). IsRunFrom constants m (state_after constants (next constants state entry) first) second) e k),
+              (subst (λ (m : ℕ). IsRunFrom constants m
+              (state_after constants (next constants state entry) first) second) e k),
         ),
       ),
     )
@@ -65,11 +68,13 @@ pub state_after-snoc : (constants : Constants) (state : State) (entries : List E
     → state_after constants state (entries ++ entry ∷ []) ≡ next constants (state_after constants state entries) entry
 state_after-snoc constants state entries entry = state_after-append constants state entries (entry ∷ [])
 
-pub numbers_after_all-snoc : (constants : Constants) (numbers : ℕ → Numbers) (state : State) (entries : List Entry) (entry : Entry)
+pub numbers_after_all-snoc : (constants : Constants) (numbers : ℕ
+    → Numbers) (state : State) (entries : List Entry) (entry : Entry)
     → numbers_after_all constants numbers state (entries ++ entry ∷ [])
     ≡ numbers_after (kind entry.step) constants (numbers_after_all constants numbers state entries)
     (state_after constants state entries) entry.step entry.answer
-numbers_after_all-snoc constants numbers state entries entry = numbers_after_all-append constants numbers state entries (entry ∷ [])
+numbers_after_all-snoc constants numbers state entries entry =
+    numbers_after_all-append constants numbers state entries (entry ∷ [])
 
 pub run-snoc : (constants : Constants) (n : ℕ) (state : State) (entries : List Entry) (entry : Entry)
     → IsRunFrom constants n state entries

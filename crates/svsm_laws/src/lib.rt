@@ -3,6 +3,7 @@
 //! Each law is the contract of a function with an empty body; its statement stands in `specs/`.
 #![tactic(auto)]
 
+ghost use Rattle.svsm_laws.specs.Booted.{BootedIsShut};
 ghost use Rattle.svsm_laws.specs.Ownership.{StepsKeepShut, EntriesKeepShut, KeepsOwnership, ShutIsSafe};
 ghost use Rattle.svsm_laws.specs.Runs.{RunsGoOn, PlatformsAreFollowed};
 
@@ -34,4 +35,9 @@ pub fn keeps_ownership()
 /// In a shut state no VMPL of the guest reaches a page that the module owns.
 pub fn shut_is_safe()
     ensures { ShutIsSafe }
+{}
+
+/// The booted state is shut, where no page of the module has rights in the image and accepted pages are the guest's.
+pub fn booted_is_shut()
+    ensures { BootedIsShut }
 {}
