@@ -5,6 +5,7 @@
 
 ghost use Rattle.svsm_laws.specs.Booted.{BootedIsShut};
 ghost use Rattle.svsm_laws.specs.Ownership.{StepsKeepShut, EntriesKeepShut, KeepsOwnership, ShutIsSafe};
+ghost use Rattle.svsm_laws.specs.Places.{AnswersAtItsPlace, ChangesItsPlace, LogsMerge, LogsAreReplays};
 ghost use Rattle.svsm_laws.specs.Runs.{RunsGoOn, PlatformsAreFollowed};
 
 /// A run with an entry that its last state allows is a run.
@@ -40,4 +41,24 @@ pub fn shut_is_safe()
 /// The booted state is shut, where no page of the module has rights in the image and accepted pages are the guest's.
 pub fn booted_is_shut()
     ensures { BootedIsShut }
+{}
+
+/// The answers that a well-formed step may have depend on its own place alone.
+pub fn answers_at_its_place()
+    ensures { AnswersAtItsPlace }
+{}
+
+/// An entry changes its own place, and no other.
+pub fn changes_its_place()
+    ensures { ChangesItsPlace }
+{}
+
+/// Logs that are replays, each of its own place, make up a run, in whatever order they are merged.
+pub fn logs_merge()
+    ensures { LogsMerge }
+{}
+
+/// In a run each place's entries are a replay from its state, and end in its last state.
+pub fn logs_are_replays()
+    ensures { LogsAreReplays }
 {}
