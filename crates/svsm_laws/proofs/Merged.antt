@@ -67,7 +67,8 @@ logs_merge constants n state (entry ∷ entries) tickets places w h =
           logs_merge constants (n + 1) (next constants state entry) entries tickets.1 places.1 w.1
               (λ number within. subst (λ (v : PlaceValue). IsReplay constants.apics v (of_place number entries))
               (sym (after_entry constants state entry number w.0 places.0 within))
-              (tail_of constants.apics (place_in constants state number) entry (of_place number entries) (entry.place == number)
+              (tail_of constants.apics (place_in constants state number) entry (of_place number entries)
+              (entry.place == number)
               (h number within))),
         ),
       ),

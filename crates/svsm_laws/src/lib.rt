@@ -3,6 +3,7 @@
 //! Each law is the contract of a function with an empty body; its statement stands in `specs/`.
 #![tactic(auto)]
 
+ghost use Rattle.svsm_laws.specs.Answers.{StateIsDetermined, AnswerIsDetermined, AnswerExists};
 ghost use Rattle.svsm_laws.specs.Booted.{BootedIsShut};
 ghost use Rattle.svsm_laws.specs.Ownership.{StepsKeepShut, EntriesKeepShut, KeepsOwnership, ShutIsSafe};
 ghost use Rattle.svsm_laws.specs.Places.{AnswersAtItsPlace, ChangesItsPlace, LogsMerge, LogsAreReplays};
@@ -61,4 +62,19 @@ pub fn logs_merge()
 /// In a run each place's entries are a replay from its state, and end in its last state.
 pub fn logs_are_replays()
     ensures { LogsAreReplays }
+{}
+
+/// An entry leads from a state to one state.
+pub fn state_is_determined()
+    ensures { StateIsDetermined }
+{}
+
+/// A step has one answer at most that faults where it is due to fault.
+pub fn answer_is_determined()
+    ensures { AnswerIsDetermined }
+{}
+
+/// A step has an answer that faults where it is due to fault.
+pub fn answer_exists()
+    ensures { AnswerExists }
 {}
