@@ -5,6 +5,7 @@
 
 ghost use Rattle.svsm_laws.specs.Answers.{StateIsDetermined, AnswerIsDetermined, AnswerExists};
 ghost use Rattle.svsm_laws.specs.Booted.{BootedIsShut};
+ghost use Rattle.svsm_laws.specs.Examples.{PlatformExamples, StepExamples};
 ghost use Rattle.svsm_laws.specs.Ownership.{StepsKeepShut, EntriesKeepShut, KeepsOwnership, ShutIsSafe};
 ghost use Rattle.svsm_laws.specs.Places.{AnswersAtItsPlace, ChangesItsPlace, LogsMerge, LogsAreReplays};
 ghost use Rattle.svsm_laws.specs.Runs.{RunsGoOn, PlatformsAreFollowed};
@@ -77,4 +78,10 @@ pub fn answer_is_determined()
 /// A step has an answer that faults where it is due to fault.
 pub fn answer_exists()
     ensures { AnswerExists }
+{}
+
+/// Worked examples of the platform and of the steps, by computation.
+pub fn worked_examples()
+    ensures platform { PlatformExamples }
+    ensures steps { StepExamples }
 {}
