@@ -1,0 +1,31 @@
+-- The booted state of an image is shut.
+use Rattle.std.specs.Prelude.{ℕ, ◌==◌, Bool, ◌||◌, IsTrue}
+use Rattle.std.specs.List.{list_all}
+use Rattle.svsm_types.specs.declared.image.Image.{Image}
+use Rattle.svsm_types.specs.declared.image.Range.{Range}
+use Rattle.svsm_types.specs.declared.platform.Size.{Size}
+use Rattle.svsm_types.specs.declared.owner.Owner.TheVariants.{Guest}
+use Rattle.svsm_types.specs.Pages.{region_of}
+use Rattle.svsm_steps.specs.Checks.{same_owner, all_owned}
+use Rattle.svsm_steps.specs.State.{State, AreSized}
+use Rattle.svsm_steps.specs.Image.{image_state, accept_entries, booted}
+use Rattle.svsm_steps.specs.Safe.{IsShut}
+
+-- no rights to pages of the module
+abbrev pub is_shut_range : Range → Bool
+is_shut_range range = same_owner range.owner Guest || (range.rights == 0)
+
+abbrev pub HasShutRanges : Image → Type 0
+HasShutRanges image = IsTrue (list_all is_shut_range image.ranges)
+
+-- the pages of an accept entry are the guest's
+abbrev pub is_guests : State → ℕ × Size → Bool
+is_guests state entry = all_owned Guest entry.1 entry.0 (state.regions (region_of entry.0))
+
+abbrev pub AcceptsGuests : Image → Type 0
+AcceptsGuests image = IsTrue (list_all (is_guests (image_state image)) (accept_entries image))
+
+-- An image that gives no rights to pages of the module, and that accepts pages of the guest alone, boots into a shut state.
+abbrev pub BootedIsShut : Type 0
+BootedIsShut =
+    (image : Image) → HasShutRanges image → AcceptsGuests image → AreSized (booted image) × IsShut (booted image)

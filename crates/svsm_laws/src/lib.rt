@@ -1,0 +1,87 @@
+//! What the definitions of the machine imply.
+//!
+//! Each law is the contract of a function with an empty body; its statement stands in `specs/`.
+#![tactic(auto)]
+
+ghost use Rattle.svsm_laws.specs.Answers.{StateIsDetermined, AnswerIsDetermined, AnswerExists};
+ghost use Rattle.svsm_laws.specs.Booted.{BootedIsShut};
+ghost use Rattle.svsm_laws.specs.Examples.{PlatformExamples, StepExamples};
+ghost use Rattle.svsm_laws.specs.Ownership.{StepsKeepShut, EntriesKeepShut, KeepsOwnership, ShutIsSafe};
+ghost use Rattle.svsm_laws.specs.Places.{AnswersAtItsPlace, ChangesItsPlace, LogsMerge, LogsAreReplays};
+ghost use Rattle.svsm_laws.specs.Runs.{RunsGoOn, PlatformsAreFollowed};
+
+/// A run with an entry that its last state allows is a run.
+pub fn runs_go_on()
+    ensures { RunsGoOn }
+{}
+
+/// A run that follows its platform still does with an entry that faults where it is due to.
+pub fn platforms_are_followed()
+    ensures { PlatformsAreFollowed }
+{}
+
+/// Each micro-operation of a well-formed step keeps the pages that the module owns shut.
+pub fn steps_keep_shut()
+    ensures { StepsKeepShut }
+{}
+
+/// So does each that an entry made, with any answer.
+pub fn entries_keep_shut()
+    ensures { EntriesKeepShut }
+{}
+
+/// From a shut state, no entries with well-formed steps ever let the guest reach a page that the module owns.
+pub fn keeps_ownership()
+    ensures { KeepsOwnership }
+{}
+
+/// In a shut state no VMPL of the guest reaches a page that the module owns.
+pub fn shut_is_safe()
+    ensures { ShutIsSafe }
+{}
+
+/// The booted state is shut, where no page of the module has rights in the image and accepted pages are the guest's.
+pub fn booted_is_shut()
+    ensures { BootedIsShut }
+{}
+
+/// The answers that a well-formed step may have depend on its own place alone.
+pub fn answers_at_its_place()
+    ensures { AnswersAtItsPlace }
+{}
+
+/// An entry changes its own place, and no other.
+pub fn changes_its_place()
+    ensures { ChangesItsPlace }
+{}
+
+/// Logs that are replays, each of its own place, make up a run, in whatever order they are merged.
+pub fn logs_merge()
+    ensures { LogsMerge }
+{}
+
+/// In a run each place's entries are a replay from its state, and end in its last state.
+pub fn logs_are_replays()
+    ensures { LogsAreReplays }
+{}
+
+/// An entry leads from a state to one state.
+pub fn state_is_determined()
+    ensures { StateIsDetermined }
+{}
+
+/// A step has one answer at most that faults where it is due to fault.
+pub fn answer_is_determined()
+    ensures { AnswerIsDetermined }
+{}
+
+/// A step has an answer that faults where it is due to fault.
+pub fn answer_exists()
+    ensures { AnswerExists }
+{}
+
+/// Worked examples of the platform and of the steps, by computation.
+pub fn worked_examples()
+    ensures platform { PlatformExamples }
+    ensures steps { StepExamples }
+{}
