@@ -1,0 +1,4 @@
+pub mod Views
+pub mod Performed
+pub mod Moved
+pub mod Built

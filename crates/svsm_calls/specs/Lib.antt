@@ -1,0 +1,15 @@
+pub mod Codes
+pub mod Lists
+pub mod Dialogue
+pub mod Calls
+pub mod Sequences
+pub mod Prefixes
+pub mod Formed
+pub mod Events
+pub mod CoreRun
+pub mod World
+pub mod Waves
+pub mod Run
+pub mod Once
+pub mod Admitted
+pub mod Apart

@@ -1,0 +1,9 @@
+//! What each call of the core protocol does, from its registers to its reply, and how cores make a run of the machine.
+//!
+//! The definitions stand in `specs/`: `Sequences` has the whole sequences of each call, `Calls` what a call asks next,
+//! `CoreRun` the run of one core, `Run` the run of all.
+#![tactic(auto)]
+
+mod laws;
+
+pub use laws::{asks_its_sequences, asks_prefixes, fixes_the_next_step};
