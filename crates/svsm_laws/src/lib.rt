@@ -6,6 +6,7 @@
 ghost use Rattle.svsm_laws.specs.Answers.{StateIsDetermined, AnswerIsDetermined, AnswerExists};
 ghost use Rattle.svsm_laws.specs.Booted.{BootedIsShut};
 ghost use Rattle.svsm_laws.specs.Examples.{PlatformExamples, StepExamples};
+ghost use Rattle.svsm_laws.specs.Follows.{PlacesFollow};
 ghost use Rattle.svsm_laws.specs.Mapped.{AnswersAreFormed, StaysMapped};
 ghost use Rattle.svsm_laws.specs.Ownership.{StepsKeepShut, EntriesKeepShut, KeepsOwnership, ShutIsSafe};
 ghost use Rattle.svsm_laws.specs.Places.{AnswersAtItsPlace, ChangesItsPlace, LogsMerge, LogsAreReplays};
@@ -95,4 +96,9 @@ pub fn answers_are_formed()
 /// Entries with well-formed steps keep blocks and rows in the map.
 pub fn stays_mapped()
     ensures { StaysMapped }
+{}
+
+/// Entries follow their image's platform exactly where those of each place do.
+pub fn places_follow()
+    ensures { PlacesFollow }
 {}
