@@ -4,7 +4,7 @@
 #![tactic(auto)]
 
 ghost use Rattle.svsm_laws.specs.Answers.{StateIsDetermined, AnswerIsDetermined, AnswerExists};
-ghost use Rattle.svsm_laws.specs.Booted.{BootedIsShut};
+ghost use Rattle.svsm_laws.specs.Booted.{BootedIsShut, SpansAcceptGuests};
 ghost use Rattle.svsm_laws.specs.Examples.{PlatformExamples, StepExamples};
 ghost use Rattle.svsm_laws.specs.Follows.{PlacesFollow};
 ghost use Rattle.svsm_laws.specs.Mapped.{AnswersAreFormed, StaysMapped};
@@ -101,4 +101,9 @@ pub fn stays_mapped()
 /// Entries follow their image's platform exactly where those of each place do.
 pub fn places_follow()
     ensures { PlacesFollow }
+{}
+
+/// Accept entries have pages of the guest alone, where the accept spans do.
+pub fn spans_accept_guests()
+    ensures { SpansAcceptGuests }
 {}
