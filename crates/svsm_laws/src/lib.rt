@@ -3,11 +3,11 @@
 //! Each law is the contract of a function with an empty body; its statement stands in `specs/`.
 #![tactic(auto)]
 
-ghost use Rattle.svsm_laws.specs.Answers.{StateIsDetermined, AnswerIsDetermined, AnswerExists};
+ghost use Rattle.svsm_laws.specs.Answers.{StateIsDetermined, AnswerIsDetermined, AnswerExists, RunIsDetermined};
 ghost use Rattle.svsm_laws.specs.Booted.{BootedIsShut, SpansAcceptGuests};
 ghost use Rattle.svsm_laws.specs.Examples.{PlatformExamples, StepExamples};
 ghost use Rattle.svsm_laws.specs.Follows.{PlacesFollow};
-ghost use Rattle.svsm_laws.specs.Mapped.{AnswersAreFormed, StaysMapped};
+ghost use Rattle.svsm_laws.specs.Mapped.{AnswersAreFormed, StaysMapped, BootedIsMapped};
 ghost use Rattle.svsm_laws.specs.Ownership.{StepsKeepShut, EntriesKeepShut, KeepsOwnership, ShutIsSafe};
 ghost use Rattle.svsm_laws.specs.Places.{AnswersAtItsPlace, ChangesItsPlace, LogsMerge, LogsAreReplays};
 ghost use Rattle.svsm_laws.specs.Runs.{RunsGoOn, PlatformsAreFollowed};
@@ -106,4 +106,14 @@ pub fn places_follow()
 /// Accept entries have pages of the guest alone, where the accept spans do.
 pub fn spans_accept_guests()
     ensures { SpansAcceptGuests }
+{}
+
+/// Runs that follow one platform and have the same steps are the same.
+pub fn run_is_determined()
+    ensures { RunIsDetermined }
+{}
+
+/// Blocks and rows of the booted state lie in the map.
+pub fn booted_is_mapped()
+    ensures { BootedIsMapped }
 {}
