@@ -10,6 +10,7 @@ ghost use Rattle.svsm_laws.specs.Follows.{PlacesFollow};
 ghost use Rattle.svsm_laws.specs.Mapped.{AnswersAreFormed, StaysMapped, BootedIsMapped};
 ghost use Rattle.svsm_laws.specs.Ownership.{StepsKeepShut, EntriesKeepShut, KeepsOwnership, ShutIsSafe};
 ghost use Rattle.svsm_laws.specs.Places.{AnswersAtItsPlace, ChangesItsPlace, LogsMerge, LogsAreReplays};
+ghost use Rattle.svsm_laws.specs.Refusals.{RefusalsChangeNothing, StaysCommon};
 ghost use Rattle.svsm_laws.specs.Runs.{RunsGoOn, PlatformsAreFollowed};
 
 /// A run with an entry that its last state allows is a run.
@@ -116,4 +117,14 @@ pub fn run_is_determined()
 /// Blocks and rows of the booted state lie in the map.
 pub fn booted_is_mapped()
     ensures { BootedIsMapped }
+{}
+
+/// A step that is refused changes nothing, but that it may split a 2M entry.
+pub fn refusals_change_nothing()
+    ensures { RefusalsChangeNothing }
+{}
+
+/// The pages of each 2M entry keep one common state.
+pub fn stays_common()
+    ensures { StaysCommon }
 {}
