@@ -77,7 +77,7 @@ pub common_all : (micros : List Micro) (r : RegionState) → IsSized r → IsCom
 common_all [] r z h = h
 common_all (micro ∷ micros) r z h = common_all micros (after micro r) (sized-after micro r z) (common_after micro r z h)
 
-common_by : (b : Bool) (r old : RegionState) → IsCommon r → IsCommon old → IsCommon (if b then r else old)
+pub common_by : (b : Bool) (r old : RegionState) → IsCommon r → IsCommon old → IsCommon (if b then r else old)
 common_by true r old h k = h
 common_by false r old h k = k
 

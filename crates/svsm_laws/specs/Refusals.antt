@@ -1,10 +1,13 @@
 -- A step that is refused changes nothing, and 4K entries never join.
 use Rattle.std.specs.Prelude.{◌≡◌, ℕ, ◌<◌, Bool, true, false, IsTrue, List, slice_index_or}
+use Rattle.svsm_types.specs.declared.image.Image.{Image}
+use Rattle.svsm_types.specs.Pages.{region_of}
 use Rattle.svsm_types.specs.Hardware.{blank}
 use Rattle.svsm_steps.specs.declared.answer.Answer.{Answer}
 use Rattle.svsm_steps.specs.declared.answer.Answer.TheVariants.{Done, Word, Denied, Refused, Unchanged, Hw, BadVmsa, Strange, Held, Block, Empty, Seen, Taken, Unknown, Running, Fault}
 use Rattle.svsm_steps.specs.declared.entry.Entry.{Entry}
 use Rattle.svsm_steps.specs.State.{State, Constants, RegionState, AreSized}
+use Rattle.svsm_steps.specs.Image.{range_of, page_in, is_held_large, booted}
 use Rattle.svsm_steps.specs.Machine.{Leads, state_after}
 
 -- the answers of a step that did not do what it was asked for
@@ -59,3 +62,13 @@ abbrev pub StaysCommon : Type 0
 StaysCommon =
     (constants : Constants) (state : State) (entries : List Entry) → AreSized state → AreCommon state
     → AreCommon (state_after constants state entries)
+
+-- the pages of each region that an image holds as one 2M entry have one state
+abbrev pub HasCommonLarge : Image → Type 0
+HasCommonLarge image =
+    (page other : ℕ) → IsTrue (is_held_large image (region_of page)) → region_of page ≡ region_of other
+    → page_in (range_of image page) ≡ page_in (range_of image other)
+
+-- They have one state in the booted state too.
+abbrev pub BootedIsCommon : Type 0
+BootedIsCommon = (image : Image) → HasCommonLarge image → AreCommon (booted image)
