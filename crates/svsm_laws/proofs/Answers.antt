@@ -279,7 +279,7 @@ answered : (refused : Option Answer) (numbers : Numbers) (r : RegionState) (step
 answered None numbers r step h = planned numbers r step (first_due 0 numbers (plan r step) r) refl
 answered (Some other) numbers r step h = (refl, h)
 
-given : (kd : Kind) (constants : Constants) (numbers : ℕ → Numbers) (state : State) (step : Step)
+pub given : (kd : Kind) (constants : Constants) (numbers : ℕ → Numbers) (state : State) (step : Step)
     → MayGive kd constants state step (due_answer kd constants numbers state step)
     × (fault_at (due_answer kd constants numbers state step) ≡ due_at kd constants numbers state step)
 given region constants numbers state step =

@@ -142,7 +142,8 @@ whole_so r step e n h = (
         sym (answer_whole (row r step) r (row_answer r step) h),
       )),
   ap (λ (ms : List Micro). after_all ms r) (sym (ended_whole (row r step) r h))
-      ∙ (ap (λ (o : Option ℕ). after_all (performed (plan r step) o) r) (sym n) ∙ admitted_after r step (row_answer r step) e),
+      ∙ (ap (λ (o : Option ℕ). after_all (performed (plan r step) o) r) (sym n)
+      ∙ admitted_after r step (row_answer r step) e),
 )
 
 -- pvalidate is micro-operation k, changes nothing, and so ends the row

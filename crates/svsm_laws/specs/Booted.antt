@@ -1,5 +1,5 @@
 -- The booted state of an image is shut.
-use Rattle.std.specs.Prelude.{◌≡◌, ℕ, ◌+◌, ◌==◌, nat_le, nat_lt, Bool, ◌&&◌, ◌||◌, IsTrue}
+use Rattle.std.specs.Prelude.{◌≡◌, ℕ, ◌+◌, ◌==◌, nat_le, nat_lt, Bool, ◌&&◌, ◌||◌, IsTrue, List}
 use Rattle.std.specs.List.{list_all, list_any}
 use Rattle.svsm_types.specs.declared.image.Image.{Image}
 use Rattle.svsm_types.specs.declared.image.Range.{Range}
@@ -9,8 +9,10 @@ use Rattle.svsm_types.specs.declared.owner.Owner.TheVariants.{Guest}
 use Rattle.svsm_types.specs.Pages.{region_of}
 use Rattle.svsm_steps.specs.Checks.{same_owner, all_owned}
 use Rattle.svsm_steps.specs.State.{State, AreSized}
-use Rattle.svsm_steps.specs.Image.{range_of, owner_in, image_state, accept_entries, booted}
-use Rattle.svsm_steps.specs.Safe.{IsShut}
+use Rattle.svsm_steps.specs.Image.{constants_of, range_of, owner_in, image_state, accept_entries, booted}
+use Rattle.svsm_steps.specs.declared.entry.Entry.{Entry}
+use Rattle.svsm_steps.specs.Formed.{AreWellFormed}
+use Rattle.svsm_steps.specs.Safe.{IsShut, AlwaysSafe}
 
 -- no rights to pages of the module
 abbrev pub is_shut_range : Range → Bool
@@ -44,3 +46,10 @@ AcceptedAreGuests image = (page : ℕ) → IsTrue (is_accepted image page) → o
 -- The accept entries have pages of the guest alone, where the accept spans do.
 abbrev pub SpansAcceptGuests : Type 0
 SpansAcceptGuests = (image : Image) → AcceptedAreGuests image → AcceptsGuests image
+
+-- From the booted state of such an image, whatever entries with well-formed steps follow, no VMPL of the guest ever reaches a
+-- page that the module owns.
+abbrev pub BootedIsAlwaysSafe : Type 0
+BootedIsAlwaysSafe =
+    (image : Image) (entries : List Entry) → HasShutRanges image → AcceptedAreGuests image
+    → AreWellFormed image.regions entries → AlwaysSafe (constants_of image) (booted image) entries

@@ -3,8 +3,9 @@
 //! Each law is the contract of a function with an empty body; its statement stands in `specs/`.
 #![tactic(auto)]
 
+ghost use Rattle.svsm_laws.specs.Allowed.{AnswersAreDecided};
 ghost use Rattle.svsm_laws.specs.Answers.{StateIsDetermined, AnswerIsDetermined, AnswerExists, RunIsDetermined};
-ghost use Rattle.svsm_laws.specs.Booted.{BootedIsShut, SpansAcceptGuests};
+ghost use Rattle.svsm_laws.specs.Booted.{BootedIsShut, SpansAcceptGuests, BootedIsAlwaysSafe};
 ghost use Rattle.svsm_laws.specs.Examples.{PlatformExamples, StepExamples};
 ghost use Rattle.svsm_laws.specs.Follows.{PlacesFollow};
 ghost use Rattle.svsm_laws.specs.Mapped.{AnswersAreFormed, StaysMapped, BootedIsMapped};
@@ -26,6 +27,11 @@ pub fn answer_is_determined()
 /// A step has an answer that faults where it is due to fault.
 pub fn answer_exists()
     ensures { AnswerExists }
+{}
+
+/// A step may answer what the platform's table gives, or a fault of the platform within its plan, and nothing else.
+pub fn answers_are_decided()
+    ensures { AnswersAreDecided }
 {}
 
 /// Runs that follow one platform and have the same steps are the same.
@@ -96,6 +102,11 @@ pub fn booted_is_shut()
 /// Accept entries have pages of the guest alone, where the accept spans do.
 pub fn spans_accept_guests()
     ensures { SpansAcceptGuests }
+{}
+
+/// From a booted state, whatever well-formed steps follow, the guest never reaches a page that the module owns.
+pub fn booted_is_always_safe()
+    ensures { BootedIsAlwaysSafe }
 {}
 
 /// A step that is refused changes nothing, but that it may split a 2M entry.
