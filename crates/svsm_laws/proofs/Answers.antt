@@ -32,7 +32,7 @@ state_is_determined constants old entry new other h k = h.1 ∙ sym k.1
 some_of : (x y : ℕ) → Some x ≡ Some y → x ≡ y
 some_of x y e = cc
 
-fault_of : (answer : Answer) (done : ℕ) → fault_at answer ≡ Some done → answer ≡ Fault done
+pub fault_of : (answer : Answer) (done : ℕ) → fault_at answer ≡ Some done → answer ≡ Fault done
 fault_of (Fault other) done e = ap Fault (some_of other done e)
 fault_of Done done e = cc
 fault_of (Word word) done e = cc

@@ -39,7 +39,7 @@ replay_of apics old entry entries true = refl
 replay_of apics old entry entries false = refl
 
 -- a place after an entry, by the place that the entry names
-after_entry : (constants : Constants) (state : State) (entry : Entry) (number : ℕ)
+pub after_entry : (constants : Constants) (state : State) (entry : Entry) (number : ℕ)
     → IsWellFormed constants.regions entry.step
     → entry.place ≡ place_of constants.regions entry.step → number ≤ constants.regions + 1
     → place_in constants (next constants state entry) number

@@ -78,7 +78,7 @@ pick_third false true x y z h k = cc
 pick_third true d x y z h k = cc
 
 -- the value at a place, by what it is
-abbrev value_of : Kind → State → ℕ → PlaceValue
+abbrev pub value_of : Kind → State → ℕ → PlaceValue
 value_of region state number = in_region (state.regions number)
 value_of pool state number = in_pool state.pool
 value_of registry state number = in_registry state.rows
@@ -129,14 +129,14 @@ answers_at_its_place constants state step answer w =
 
 -- the places after an entry
 
-if_same : {A : Type 0} (number other : ℕ) (x y : A) → number ≡ other → (if number == other then x else y) ≡ x
+pub if_same : {A : Type 0} (number other : ℕ) (x y : A) → number ≡ other → (if number == other then x else y) ≡ x
 if_same number other x y e = by_test (number == other) (eq-eqb number other e)
   where
     by_test : (b : Bool) → b ≡ true → (if b then x else y) ≡ x
     by_test true h = refl
     by_test false h = cc
 
-if_other : {A : Type 0} (number other : ℕ) (x y : A) → (number == other) ≡ false → (if number == other then x else y) ≡ y
+pub if_other : {A : Type 0} (number other : ℕ) (x y : A) → (number == other) ≡ false → (if number == other then x else y) ≡ y
 if_other number other x y e = by_test (number == other) e
   where
     by_test : (b : Bool) → b ≡ false → (if b then x else y) ≡ y

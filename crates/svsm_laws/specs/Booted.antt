@@ -1,14 +1,15 @@
 -- The booted state of an image is shut.
-use Rattle.std.specs.Prelude.{ℕ, ◌==◌, Bool, ◌||◌, IsTrue}
-use Rattle.std.specs.List.{list_all}
+use Rattle.std.specs.Prelude.{◌≡◌, ℕ, ◌+◌, ◌==◌, nat_le, nat_lt, Bool, ◌&&◌, ◌||◌, IsTrue}
+use Rattle.std.specs.List.{list_all, list_any}
 use Rattle.svsm_types.specs.declared.image.Image.{Image}
 use Rattle.svsm_types.specs.declared.image.Range.{Range}
+use Rattle.svsm_types.specs.declared.image.Span.{Span}
 use Rattle.svsm_types.specs.declared.platform.Size.{Size}
 use Rattle.svsm_types.specs.declared.owner.Owner.TheVariants.{Guest}
 use Rattle.svsm_types.specs.Pages.{region_of}
 use Rattle.svsm_steps.specs.Checks.{same_owner, all_owned}
 use Rattle.svsm_steps.specs.State.{State, AreSized}
-use Rattle.svsm_steps.specs.Image.{image_state, accept_entries, booted}
+use Rattle.svsm_steps.specs.Image.{range_of, owner_in, image_state, accept_entries, booted}
 use Rattle.svsm_steps.specs.Safe.{IsShut}
 
 -- no rights to pages of the module
@@ -29,3 +30,17 @@ AcceptsGuests image = IsTrue (list_all (is_guests (image_state image)) (accept_e
 abbrev pub BootedIsShut : Type 0
 BootedIsShut =
     (image : Image) → HasShutRanges image → AcceptsGuests image → AreSized (booted image) × IsShut (booted image)
+
+-- a page of an accept span
+abbrev pub is_in_span : ℕ → Span → Bool
+is_in_span page span = nat_le span.first.0 page && nat_lt page (span.first.0 + span.count)
+
+abbrev pub is_accepted : Image → ℕ → Bool
+is_accepted image page = list_any (is_in_span page) image.accepts
+
+abbrev pub AcceptedAreGuests : Image → Type 0
+AcceptedAreGuests image = (page : ℕ) → IsTrue (is_accepted image page) → owner_in (range_of image page) ≡ Guest
+
+-- The accept entries have pages of the guest alone, where the accept spans do.
+abbrev pub SpansAcceptGuests : Type 0
+SpansAcceptGuests = (image : Image) → AcceptedAreGuests image → AcceptsGuests image

@@ -4,8 +4,10 @@
 #![tactic(auto)]
 
 ghost use Rattle.svsm_laws.specs.Answers.{StateIsDetermined, AnswerIsDetermined, AnswerExists};
-ghost use Rattle.svsm_laws.specs.Booted.{BootedIsShut};
+ghost use Rattle.svsm_laws.specs.Booted.{BootedIsShut, SpansAcceptGuests};
 ghost use Rattle.svsm_laws.specs.Examples.{PlatformExamples, StepExamples};
+ghost use Rattle.svsm_laws.specs.Follows.{PlacesFollow};
+ghost use Rattle.svsm_laws.specs.Mapped.{AnswersAreFormed, StaysMapped};
 ghost use Rattle.svsm_laws.specs.Ownership.{StepsKeepShut, EntriesKeepShut, KeepsOwnership, ShutIsSafe};
 ghost use Rattle.svsm_laws.specs.Places.{AnswersAtItsPlace, ChangesItsPlace, LogsMerge, LogsAreReplays};
 ghost use Rattle.svsm_laws.specs.Runs.{RunsGoOn, PlatformsAreFollowed};
@@ -84,4 +86,24 @@ pub fn answer_exists()
 pub fn worked_examples()
     ensures platform { PlatformExamples }
     ensures steps { StepExamples }
+{}
+
+/// Every answer that a well-formed step may have is well formed, where blocks and rows lie in the map.
+pub fn answers_are_formed()
+    ensures { AnswersAreFormed }
+{}
+
+/// Entries with well-formed steps keep blocks and rows in the map.
+pub fn stays_mapped()
+    ensures { StaysMapped }
+{}
+
+/// Entries follow their image's platform exactly where those of each place do.
+pub fn places_follow()
+    ensures { PlacesFollow }
+{}
+
+/// Accept entries have pages of the guest alone, where the accept spans do.
+pub fn spans_accept_guests()
+    ensures { SpansAcceptGuests }
 {}
