@@ -1,12 +1,22 @@
 //! Laws that tie the definitions together. Each is the contract of a function that does nothing.
-ghost use Rattle.std.specs.Prelude.{Bool, List, ◌≡◌};
+ghost use Rattle.std.specs.Prelude.{Bool, true, false, List, [], ◌∷◌, ◌≡◌, ◌≤◌, ℕ, length};
 ghost use Rattle.svsm_types.specs.declared.call.Regs.{Regs};
+ghost use Rattle.svsm_types.specs.declared.image.Image.{Image};
+ghost use Rattle.svsm_types.specs.declared.request.Request.{Request};
 ghost use Rattle.svsm_steps.specs.declared.call.Caller.{Caller};
 ghost use Rattle.svsm_steps.specs.declared.call.Do.{Do};
+ghost use Rattle.svsm_steps.specs.declared.call.Do.TheVariants.{Reply};
+ghost use Rattle.svsm_steps.specs.declared.outcome.Outcome.{Outcome};
+ghost use Rattle.svsm_steps.specs.declared.outcome.CoreEnd.{CoreEnd};
+ghost use Rattle.svsm_calls.specs.Events.{Made, Event};
+ghost use Rattle.svsm_calls.specs.CoreRun.{IsPiece, IsCutOff};
+ghost use Rattle.svsm_calls.specs.Run.{IsStarted};
 ghost use Rattle.svsm_calls.specs.Dialogue.{Dialogue, Asked, AreListed, LeadsTo, IsWhole};
 ghost use Rattle.svsm_calls.specs.Calls.{whole_call};
 ghost use Rattle.svsm_calls.specs.Sequences.{IsCall};
+ghost use Rattle.svsm_calls.specs.Formed.{IsCaller, AsksFormed};
 ghost use Rattle.svsm_calls.specs.Prefixes.{Agree, answers_of, CanEnd};
+ghost use Rattle.svsm_calls.specs.Worked.{caller, regs, of_the_module, stopped_at_two, one_deposit, one_withdrawal, empty_pool};
 
 /// A call asks its whole sequences and no others, where each answer is one that the step table lists.
 pub fn asks_its_sequences()
@@ -39,5 +49,43 @@ pub fn fixes_the_next_step()
         → IsCall pend caller regs pairs polls outcome → IsCall pend caller regs others also end
         → Agree (answers_of pairs) (answers_of others) → Agree polls also
         → (pairs ≡ others) × (polls ≡ also) × (outcome ≡ end) }
+{
+}
+
+/// Each step that a call asks is well formed in the caller's regions.
+pub fn asks_well_formed_steps()
+    ensures { (pend : Bool) (caller : Caller) (regs : Regs) → IsCaller caller
+        → AsksFormed caller.regions (whole_call pend caller regs) }
+{
+}
+
+/// Worked list calls, with the steps, answers, polls and replies that `specs/Worked` tells, as sequences and as what is asked.
+pub fn has_worked_calls()
+    ensures page_of_the_module {
+        IsCall true caller (regs 1 0x21000) of_the_module (false ∷ []) (Reply (regs 0x80000003 0x21000))
+        × IsWhole (whole_call true caller (regs 1 0x21000)) of_the_module (false ∷ []) (Reply (regs 0x80000003 0x21000)) }
+    ensures stopped {
+        IsCall true caller (regs 1 0x21000) stopped_at_two (false ∷ true ∷ []) (Reply (regs 0x80000000 0x21000))
+        × IsWhole (whole_call true caller (regs 1 0x21000)) stopped_at_two (false ∷ true ∷ []) (Reply (regs 0x80000000 0x21000)) }
+    ensures deposited {
+        IsCall true caller (regs 4 0x21000) one_deposit [] (Reply (regs 0 0x21000))
+        × IsWhole (whole_call true caller (regs 4 0x21000)) one_deposit [] (Reply (regs 0 0x21000)) }
+    ensures withdrawn {
+        IsCall true caller (regs 5 0x21000) one_withdrawal [] (Reply (regs 0 1))
+        × IsWhole (whole_call true caller (regs 5 0x21000)) one_withdrawal [] (Reply (regs 0 1)) }
+    ensures from_an_empty_pool {
+        IsCall true caller (regs 5 0x21000) empty_pool [] (Reply (regs 0 0))
+        × IsWhole (whole_call true caller (regs 5 0x21000)) empty_pool [] (Reply (regs 0 0)) }
+{
+}
+
+/// A request makes at most 2,049 entries, also where a fault cuts it off, and a core with at most 128 requests at most 262,274.
+pub fn bounds_the_entries()
+    ensures request { (caller : Caller) (request : Request) (made : List Made) (events : List Event) (outcome : Outcome)
+        → IsPiece caller request made events outcome → length made ≤ 2049 }
+    ensures cut_off { (caller : Caller) (request : Request) (made : List Made) (events : List Event) (ticket : ℕ)
+        → IsCutOff caller request made events ticket → length made ≤ 2049 }
+    ensures core { (image : Image) (core : ℕ) (script : List Request) (made : List Made) (outcomes : List Outcome) (end : CoreEnd)
+        → length script ≤ 128 → IsStarted image core script made outcomes end → length made ≤ 262274 }
 {
 }
