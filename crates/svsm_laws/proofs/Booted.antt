@@ -111,7 +111,7 @@ at_shut : (page : ℕ) (micros : List Micro) (state : State) → IsRegionShutAlo
     → IsShut state → IsShut (after_at page micros state)
 at_shut page micros state h s = state_shut (region_of page) _ state (along_last micros (state.regions (region_of page)) h) s
 
-at_sized : (page : ℕ) (micros : List Micro) (state : State) → AreSized state → AreSized (after_at page micros state)
+pub at_sized : (page : ℕ) (micros : List Micro) (state : State) → AreSized state → AreSized (after_at page micros state)
 at_sized page micros state z = λ number.
     sized_by (region_of page == number) (after_all micros (state.regions (region_of page))) (state.regions number)
     (sized-all micros _ (z (region_of page))) (z number)

@@ -1,5 +1,5 @@
 -- One answer: what a step answers, and the state after it, are determined.
-use Rattle.std.specs.Prelude.{◌≡◌, ℕ, Option, None, Some}
+use Rattle.std.specs.Prelude.{◌≡◌, ℕ, Option, None, Some, List, [], ◌∷◌, ⊤}
 use Rattle.svsm_types.specs.Numbers.{Numbers}
 use Rattle.svsm_steps.specs.declared.step.Step.{Step}
 use Rattle.svsm_steps.specs.declared.answer.Answer.{Answer}
@@ -11,8 +11,8 @@ use Rattle.svsm_steps.specs.Checks.{refusal}
 use Rattle.svsm_steps.specs.Region.{fault_at, answer_of}
 use Rattle.svsm_steps.specs.Pool.{pool_answer}
 use Rattle.svsm_steps.specs.Registry.{rows_answer}
-use Rattle.svsm_steps.specs.Machine.{Kind, region, pool, registry, kind, own_region, MayGive, Leads}
-use Rattle.svsm_steps.specs.DueFaults.{region_due, due_at}
+use Rattle.svsm_steps.specs.Machine.{Kind, region, pool, registry, kind, own_region, MayGive, Leads, IsRunFrom}
+use Rattle.svsm_steps.specs.DueFaults.{region_due, due_at, FollowsPlatform}
 
 -- An entry leads from a state to one state.
 abbrev pub StateIsDetermined : Type 0
@@ -52,3 +52,18 @@ abbrev pub AnswerExists : Type 0
 AnswerExists =
     (constants : Constants) (numbers : ℕ → Numbers) (state : State) (step : Step)
     → IsDueAnswer constants numbers state step (due_answer (kind step) constants numbers state step)
+
+-- entries of the same cores with the same steps
+abbrev pub AreOfSameSteps : List Entry → List Entry → Type 0
+AreOfSameSteps [] [] = ⊤
+AreOfSameSteps (entry ∷ entries) (other ∷ others) =
+    (entry.core ≡ other.core) × ((entry.step ≡ other.step) × AreOfSameSteps entries others)
+AreOfSameSteps _ _ = ⊥
+
+-- Two runs from a state that follow one platform and have the same steps, in the same order of cores, are the same run.
+abbrev pub RunIsDetermined : Type 0
+RunIsDetermined =
+    (constants : Constants) (n : ℕ) (numbers : ℕ → Numbers) (state : State) (entries others : List Entry)
+    → IsRunFrom constants n state entries → FollowsPlatform constants numbers state entries
+    → IsRunFrom constants n state others → FollowsPlatform constants numbers state others
+    → AreOfSameSteps entries others → entries ≡ others

@@ -3,14 +3,35 @@
 //! Each law is the contract of a function with an empty body; its statement stands in `specs/`.
 #![tactic(auto)]
 
-ghost use Rattle.svsm_laws.specs.Answers.{StateIsDetermined, AnswerIsDetermined, AnswerExists};
+ghost use Rattle.svsm_laws.specs.Answers.{StateIsDetermined, AnswerIsDetermined, AnswerExists, RunIsDetermined};
 ghost use Rattle.svsm_laws.specs.Booted.{BootedIsShut, SpansAcceptGuests};
 ghost use Rattle.svsm_laws.specs.Examples.{PlatformExamples, StepExamples};
 ghost use Rattle.svsm_laws.specs.Follows.{PlacesFollow};
-ghost use Rattle.svsm_laws.specs.Mapped.{AnswersAreFormed, StaysMapped};
+ghost use Rattle.svsm_laws.specs.Mapped.{AnswersAreFormed, StaysMapped, BootedIsMapped};
 ghost use Rattle.svsm_laws.specs.Ownership.{StepsKeepShut, EntriesKeepShut, KeepsOwnership, ShutIsSafe};
 ghost use Rattle.svsm_laws.specs.Places.{AnswersAtItsPlace, ChangesItsPlace, LogsMerge, LogsAreReplays};
+ghost use Rattle.svsm_laws.specs.Refusals.{RefusalsChangeNothing, StaysCommon, BootedIsCommon};
 ghost use Rattle.svsm_laws.specs.Runs.{RunsGoOn, PlatformsAreFollowed};
+
+/// An entry leads from a state to one state.
+pub fn state_is_determined()
+    ensures { StateIsDetermined }
+{}
+
+/// A step has one answer at most that faults where it is due to fault.
+pub fn answer_is_determined()
+    ensures { AnswerIsDetermined }
+{}
+
+/// A step has an answer that faults where it is due to fault.
+pub fn answer_exists()
+    ensures { AnswerExists }
+{}
+
+/// Runs that follow one platform and have the same steps are the same.
+pub fn run_is_determined()
+    ensures { RunIsDetermined }
+{}
 
 /// A run with an entry that its last state allows is a run.
 pub fn runs_go_on()
@@ -20,6 +41,31 @@ pub fn runs_go_on()
 /// A run that follows its platform still does with an entry that faults where it is due to.
 pub fn platforms_are_followed()
     ensures { PlatformsAreFollowed }
+{}
+
+/// The answers that a well-formed step may have depend on its own place alone.
+pub fn answers_at_its_place()
+    ensures { AnswersAtItsPlace }
+{}
+
+/// An entry changes its own place, and no other.
+pub fn changes_its_place()
+    ensures { ChangesItsPlace }
+{}
+
+/// Logs that are replays, each of its own place, make up a run, in whatever order they are merged.
+pub fn logs_merge()
+    ensures { LogsMerge }
+{}
+
+/// In a run each place's entries are a replay from its state, and end in its last state.
+pub fn logs_are_replays()
+    ensures { LogsAreReplays }
+{}
+
+/// Entries follow their image's platform exactly where those of each place do.
+pub fn places_follow()
+    ensures { PlacesFollow }
 {}
 
 /// Each micro-operation of a well-formed step keeps the pages that the module owns shut.
@@ -47,45 +93,24 @@ pub fn booted_is_shut()
     ensures { BootedIsShut }
 {}
 
-/// The answers that a well-formed step may have depend on its own place alone.
-pub fn answers_at_its_place()
-    ensures { AnswersAtItsPlace }
+/// Accept entries have pages of the guest alone, where the accept spans do.
+pub fn spans_accept_guests()
+    ensures { SpansAcceptGuests }
 {}
 
-/// An entry changes its own place, and no other.
-pub fn changes_its_place()
-    ensures { ChangesItsPlace }
+/// A step that is refused changes nothing, but that it may split a 2M entry.
+pub fn refusals_change_nothing()
+    ensures { RefusalsChangeNothing }
 {}
 
-/// Logs that are replays, each of its own place, make up a run, in whatever order they are merged.
-pub fn logs_merge()
-    ensures { LogsMerge }
+/// The pages of each 2M entry keep one common state.
+pub fn stays_common()
+    ensures { StaysCommon }
 {}
 
-/// In a run each place's entries are a replay from its state, and end in its last state.
-pub fn logs_are_replays()
-    ensures { LogsAreReplays }
-{}
-
-/// An entry leads from a state to one state.
-pub fn state_is_determined()
-    ensures { StateIsDetermined }
-{}
-
-/// A step has one answer at most that faults where it is due to fault.
-pub fn answer_is_determined()
-    ensures { AnswerIsDetermined }
-{}
-
-/// A step has an answer that faults where it is due to fault.
-pub fn answer_exists()
-    ensures { AnswerExists }
-{}
-
-/// Worked examples of the platform and of the steps, by computation.
-pub fn worked_examples()
-    ensures platform { PlatformExamples }
-    ensures steps { StepExamples }
+/// In the booted state the pages of each 2M entry have one state, where they have in the image.
+pub fn booted_is_common()
+    ensures { BootedIsCommon }
 {}
 
 /// Every answer that a well-formed step may have is well formed, where blocks and rows lie in the map.
@@ -98,12 +123,13 @@ pub fn stays_mapped()
     ensures { StaysMapped }
 {}
 
-/// Entries follow their image's platform exactly where those of each place do.
-pub fn places_follow()
-    ensures { PlacesFollow }
+/// Blocks and rows of the booted state lie in the map.
+pub fn booted_is_mapped()
+    ensures { BootedIsMapped }
 {}
 
-/// Accept entries have pages of the guest alone, where the accept spans do.
-pub fn spans_accept_guests()
-    ensures { SpansAcceptGuests }
+/// Worked examples of the platform and of the steps, by computation.
+pub fn worked_examples()
+    ensures platform { PlatformExamples }
+    ensures steps { StepExamples }
 {}
