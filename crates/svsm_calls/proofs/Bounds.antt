@@ -174,11 +174,11 @@ cut_steps pend caller regs number made events ticket h =
     let step : Step = h.step in
     let more : List Asked = pairs ++ step gives usual step ∷ [] in
     let leads : LeadsTo (whole_call pend caller regs) more (h.polls ++ []) (rest_of h.now (gets.Answer (usual step))) =
-        leads_on (whole_call pend caller regs) h.now (rest_of h.now (gets.Answer (usual step))) pairs (step gives usual step ∷ []) h.polls [] h.leads
-          (answer_here h.now step (usual step) h.asks) in
+    leads_on (whole_call pend caller regs) h.now (rest_of h.now (gets.Answer (usual step))) pairs (step gives usual step ∷ []) h.polls [] h.leads
+    (answer_here h.now step (usual step) h.asks) in
     let can : CanEnd pend caller regs more (h.polls ++ []) =
-        can_end pend caller regs more (h.polls ++ []) (rest_of h.now (gets.Answer (usual step)))
-          (listed_both pairs (step gives usual step ∷ []) h.listed (usual_listed step, tt)) leads in
+    can_end pend caller regs more (h.polls ++ []) (rest_of h.now (gets.Answer (usual step)))
+    (listed_both pairs (step gives usual step ∷ []) h.listed (usual_listed step, tt)) leads in
     let all : length (more ++ can.more) ≤ 2049 = call_steps pend caller regs (more ++ can.more) ((h.polls ++ []) ++ can.also) can.outcome can.call in
     let one : length (more ++ can.more) ≡ (length pairs + 1) + length can.more = rw (length-append more can.more, length-append pairs (step gives usual step ∷ [])) refl in
     let same : length pairs ≡ length h.before = pairs_steps h.before in

@@ -110,12 +110,12 @@ module _ (caller : Caller) (regs : Regs) (first : ℕ) (is : IsCaller caller) (l
       → AsksFormed caller.regions (part call (over call caller regs first) j word left f)
   part_formed pvalidate word left size =
       checked_formed pvalidate caller regs first is list j word left
-        (ask (validates (over pvalidate caller regs first) word) (on_validated (over pvalidate caller regs first) j word left f)) size
-        (page_refusal caller.regions word) refl (λ page. ((is.level, page), λ answer may. validated_formed word left answer))
+      (ask (validates (over pvalidate caller regs first) word) (on_validated (over pvalidate caller regs first) j word left f)) size
+      (page_refusal caller.regions word) refl (λ page. ((is.level, page), λ answer may. validated_formed word left answer))
   part_formed deposit word left size =
       checked_formed deposit caller regs first is list j word left
-        (ask (deposits (over deposit caller regs first) word) (on_deposited (over deposit caller regs first) j word left f)) size
-        (page_refusal caller.regions word) refl (λ page. ((is.level, page), λ answer may. deposited_formed word left page answer))
+      (ask (deposits (over deposit caller regs first) word) (on_deposited (over deposit caller regs first) j word left f)) size
+      (page_refusal caller.regions word) refl (λ page. ((is.level, page), λ answer may. deposited_formed word left page answer))
   part_formed withdraw word left size = (tt, λ answer may. popped_formed (size_of word) answer may)
 
   sized_formed : (call : ListCall) (word : ℕ) (left : Option ℕ) (b : Bool) → is_size word ≡ b
@@ -138,23 +138,24 @@ module _ (call : ListCall) (caller : Caller) (regs : Regs) (first n : ℕ) (is :
   walk_formed : (more j : ℕ) (left : Option ℕ) → j + more ≡ n → AsksFormed caller.regions (entries_from (over call caller regs first) more j left)
   walk_formed zero j left at = finish_formed call caller regs first is list j left whole
   walk_formed (suc more) j left at =
-      let w : Listed = over call caller regs first in
-      ((is.level, entry j (omega arith)),
+      let w : Listed = over call caller regs first in (
+        (is.level, entry j (omega arith)),
         λ answer may. entry_formed caller regs first is list j (entry j (omega arith))
-          (λ left_then. polled w more (j + 1) left_then (entries_from w more (j + 1) left_then))
-          (λ left_then. polled_formed more (j + 1) left_then (entries_from w more (j + 1) left_then) (walk_formed more (j + 1) left_then (omega arith)))
-          call left answer)
+            (λ left_then. polled w more (j + 1) left_then (entries_from w more (j + 1) left_then))
+            (λ left_then. polled_formed more (j + 1) left_then (entries_from w more (j + 1) left_then) (walk_formed more (j + 1) left_then (omega arith)))
+            call left answer,
+      )
 
 module _ (call : ListCall) (caller : Caller) (regs : Regs) (is : IsCaller caller) (list : IsWord caller.regions regs.rcx) where
   usable_formed : (header : ℕ) (b : Bool) → is_usable regs.rcx header ≡ b
       → AsksFormed caller.regions (if b then entries_from (over call caller regs (next_of header)) (entries_of header - next_of header) (next_of header) None
-          else refuse_list call regs invalid_parameter)
+      else refuse_list call regs invalid_parameter)
   usable_formed header false e = tt
   usable_formed header true e =
       let room : (entries_of header ≤ room_at regs.rcx) × (next_of header < entries_of header) = room_of regs.rcx header e in
       walk_formed call caller regs (next_of header) (entries_of header) is list
-        (λ j below. entry_in caller.regions regs.rcx j (entries_of header) list room.0 below)
-        (entries_of header - next_of header) (next_of header) None (omega (arith, room.1))
+      (λ j below. entry_in caller.regions regs.rcx j (entries_of header) list room.0 below)
+      (entries_of header - next_of header) (next_of header) None (omega (arith, room.1))
 
   header_formed : (answer : Answer) → AsksFormed caller.regions (on_header call caller regs answer)
   header_formed (Word header) = usable_formed header (is_usable regs.rcx header) refl
@@ -209,8 +210,8 @@ module _ (caller : Caller) (regs : Regs) (is : IsCaller caller) where
   create_formed (Some code) e = tt
   create_formed None e =
       let good : (address_refusal caller.regions 4096 regs.rcx ≡ None) × (address_refusal caller.regions 4096 regs.rdx ≡ None) =
-          both_good (address_refusal caller.regions 4096 regs.rcx) (address_refusal caller.regions 4096 regs.rdx)
-            (if regs.rcx == regs.rdx then Some invalid_parameter else None) e in
+      both_good (address_refusal caller.regions 4096 regs.rcx) (address_refusal caller.regions 4096 regs.rdx)
+      (if regs.rcx == regs.rdx then Some invalid_parameter else None) e in
       let vmsa : IsPage caller.regions (page_of regs.rcx) × (regs.rcx % 4096 ≡ 0) = good_address caller.regions 4096 regs.rcx good.0 in
       let area : IsPage caller.regions (page_of regs.rdx) × (regs.rdx % 4096 ≡ 0) = good_address caller.regions 4096 regs.rdx good.1 in
       ((vmsa.0, (area.0, even_page regs.rdx area.1)), λ answer may. reserved_formed vmsa.0 (area.0, even_page regs.rdx area.1) answer)

@@ -8,3 +8,5 @@ pub mod Rows
 pub mod Leads
 pub mod Bounds
 pub mod Readings
+pub mod OneRun
+pub mod OneWave

@@ -96,8 +96,8 @@ read_on : (caller : Caller) (script : List Request) (made : List Made) (events :
 read_on caller _ _ _ _ _ _ none behind rest others later end h = h
 read_on caller _ _ _ _ _ _ (one_more script made events outcomes now due request steps runs asked outcome before run piece) behind rest others later end h =
     rw (append_assoc, append_assoc, append_assoc, append_assoc, append_assoc)
-      (read_on caller script made events outcomes now due before (request ∷ behind) (steps ++ rest) (runs ++ (asked ++ others)) (outcome ∷ later) end
-        (goes steps rest runs asked others outcome later refl refl refl run piece h))
+    (read_on caller script made events outcomes now due before (request ∷ behind) (steps ++ rest) (runs ++ (asked ++ others)) (outcome ∷ later) end
+    (goes steps rest runs asked others outcome later refl refl refl run piece h))
 
 apic_kept : (caller : Caller) (script : List Request) (made : List Made) (events : List Event) (outcomes : List Outcome) (now : Caller) (due : Bool)
     → ArePieces caller script made events outcomes now due → now.apic ≡ caller.apic
@@ -111,19 +111,19 @@ read_run caller script _ _ _ _ (done made events outcomes now due ticket answer 
     let same : now.apic ≡ caller.apic = apic_kept caller script made events outcomes now due pieces in
     let last : List Made = record { ticket = ticket; step = Leave caller.apic; answer = answer } ∷ [] in
     let leaves : Leaves now last [] [] ends.Done =
-        record { ticket = ticket; answer = answer; made_is = rw same refl; quiet = refl; nothing = refl; ends_so = refl } in
+    record { ticket = ticket; answer = answer; made_is = rw same refl; quiet = refl; nothing = refl; ends_so = refl } in
     let r : Reads (script ++ []) caller true (made ++ last) (events ++ []) (outcomes ++ []) ends.Done =
-        read_on caller script made events outcomes now due pieces [] last [] [] ends.Done leaves in
+    read_on caller script made events outcomes now due pieces [] last [] [] ends.Done leaves in
     rw (append-nil script, append-nil events, append-nil outcomes) at r
 read_run caller script _ _ _ _ (faulted before after request made steps events runs asked outcomes now due ticket is pieces run cutoff) =
     let r : Reads (before ++ request ∷ after) caller true (made ++ steps) (events ++ (runs ++ asked)) (outcomes ++ []) (ends.Faulted ticket) =
-        read_on caller before made events outcomes now due pieces (request ∷ after) steps (runs ++ asked) [] (ends.Faulted ticket)
-          (cut runs asked ticket refl refl refl run cutoff) in
+    read_on caller before made events outcomes now due pieces (request ∷ after) steps (runs ++ asked) [] (ends.Faulted ticket)
+    (cut runs asked ticket refl refl refl run cutoff) in
     rw is (rw (append-nil outcomes) at r)
 read_run caller script _ _ _ _ (host before after request made events outcomes now got is pieces bad) =
     let r : Reads (before ++ request ∷ after) caller true (made ++ []) (events ++ sent (run_value now) got ∷ []) (outcomes ++ []) (ends.Host (run_value now) got) =
-        read_on caller before made events outcomes now true pieces (request ∷ after) [] (sent (run_value now) got ∷ []) [] (ends.Host (run_value now) got)
-          (wrong got refl refl refl refl refl bad) in
+    read_on caller before made events outcomes now true pieces (request ∷ after) [] (sent (run_value now) got ∷ []) [] (ends.Host (run_value now) got)
+    (wrong got refl refl refl refl refl bad) in
     rw is (rw (append-nil made, append-nil outcomes) at r)
 
 -- THE WORLD
@@ -146,8 +146,11 @@ module _ (lines : List HostLine) (core : ℕ) where
       → Agree polls also
   same_polls world [] also h t = tt
   same_polls world (b ∷ polls) [] h t = tt
-  same_polls world (b ∷ polls) (c ∷ also) h t = (h.0 ∙ sym t.0, same_polls (world_after world (polled b)) polls also h.1
-      (subst (λ (x : Bool). AreGiven lines core (world_after world (polled x)) (map polled also)) (t.0 ∙ sym h.0) t.1))
+  same_polls world (b ∷ polls) (c ∷ also) h t = (
+    h.0 ∙ sym t.0,
+    same_polls (world_after world (polled b)) polls also h.1
+        (subst (λ (x : Bool). AreGiven lines core (world_after world (polled x)) (map polled also)) (t.0 ∙ sym h.0) t.1),
+  )
 
   -- run requests
   same_run : (caller : Caller) (due : Bool) (world : Scripted) (runs others : List Event) → IsRunRequest caller due runs → IsRunRequest caller due others
@@ -173,7 +176,7 @@ pairs_length made = length-map made (λ (m : Made). m.step gives m.answer)
 answers_agree : (xs ys r s : List Made) → xs ++ r ≡ ys ++ s → Agree (answers_of (pairs_of xs)) (answers_of (pairs_of ys))
 answers_agree xs ys r s e =
     agree_map (λ (asked : Asked). asked.answer) (pairs_of xs) (pairs_of ys)
-      (agree_map (λ (m : Made). m.step gives m.answer) xs ys (fronts_agree xs ys r s e))
+    (agree_map (λ (m : Made). m.step gives m.answer) xs ys (fronts_agree xs ys r s e))
 
 record SamePiece (steps others rest more : List Made) (asked also : List Event) (outcome gave : Outcome) : Type 0 where
   steps_are : steps ≡ others
@@ -192,10 +195,10 @@ same_call lines core world pend caller regs number steps others rest more asked 
     let b : AreGiven lines core world (started number ∷ map polled t.polls) = subst (λ (l : List Event). AreGiven lines core world l) t.asked given_t in
     let agree : Agree h.polls t.polls = same_polls lines core begun h.polls t.polls a.1 b.1 in
     let one : (pairs_of steps ≡ pairs_of others) × (h.polls ≡ t.polls) × (h.end ≡ t.end) =
-        one_call pend caller regs (pairs_of steps) (pairs_of others) h.polls t.polls h.end t.end h.call t.call
-          (answers_agree steps others rest more e) agree in
+    one_call pend caller regs (pairs_of steps) (pairs_of others) h.polls t.polls h.end t.end h.call t.call
+    (answers_agree steps others rest more e) agree in
     let long : length steps ≡ length others =
-        sym (pairs_length steps) ∙ ap (λ (l : List Asked). length l) one.0 ∙ pairs_length others in
+    sym (pairs_length steps) ∙ ap (λ (l : List Asked). length l) one.0 ∙ pairs_length others in
     let front : (steps ≡ others) × (rest ≡ more) = same_front steps others rest more e long in
     record {
       steps_are = front.0;
@@ -254,13 +257,13 @@ whole_reaches (ask step rest) then [] others polls also outcome h t same agree =
 whole_reaches (ask step rest) then (x ∷ pairs) [] polls also outcome h t same agree = omega arith
 whole_reaches (ask step rest) then (x ∷ pairs) (y ∷ others) polls also outcome h t same agree =
     let more : length others ≤ length pairs = whole_reaches (rest x.answer) then pairs others polls also outcome h.1
-        (subst (λ (answer : Answer). LeadsTo (rest answer) others also then) (sym same.0) t.1) same.1 agree in
+    (subst (λ (answer : Answer). LeadsTo (rest answer) others also then) (sym same.0) t.1) same.1 agree in
     omega arith
 whole_reaches (poll rest) then pairs others [] also outcome h t same agree = absurd h
 whole_reaches (poll rest) then pairs others (b ∷ polls) [] outcome h t same agree = rw t.0 (omega arith)
 whole_reaches (poll rest) then pairs others (b ∷ polls) (c ∷ also) outcome h t same agree =
     whole_reaches (rest b) then pairs others polls also outcome h
-      (subst (λ (stops : Bool). LeadsTo (rest stops) others also then) (sym agree.0) t) same agree.1
+    (subst (λ (stops : Bool). LeadsTo (rest stops) others also then) (sym agree.0) t) same agree.1
 whole_reaches (reply regs) then pairs others polls also outcome h t same agree = rw t.0 (omega arith)
 whole_reaches spurious then pairs others polls also outcome h t same agree = rw t.0 (omega arith)
 
@@ -285,20 +288,20 @@ not_cut lines core world pend caller regs number made steps rest asked also outc
     let a : AreGiven lines core world (started number ∷ map polled h.polls) = subst (λ (l : List Event). AreGiven lines core world l) h.asked given_h in
     let b : AreGiven lines core world (started number ∷ map polled t.polls) = subst (λ (l : List Event). AreGiven lines core world l) t.asked given_t in
     let agree : Agree h.polls (t.polls ++ []) =
-        subst (λ (l : List Bool). Agree h.polls l) (sym (append-nil t.polls)) (same_polls lines core begun h.polls t.polls a.1 b.1) in
+    subst (λ (l : List Bool). Agree h.polls l) (sym (append-nil t.polls)) (same_polls lines core begun h.polls t.polls a.1 b.1) in
     let m : Made = record { ticket = ticket; step = t.step; answer = Fault t.performed } in
     let cut_made : List Made = t.before ++ m ∷ [] in
     let leads : LeadsTo (whole_call pend caller regs) (pairs_of t.before ++ t.step gives Fault t.performed ∷ []) (t.polls ++ []) (rest_of t.now (gets.Answer (Fault t.performed))) =
-        leads_on (whole_call pend caller regs) t.now (rest_of t.now (gets.Answer (Fault t.performed))) (pairs_of t.before) (t.step gives Fault t.performed ∷ []) t.polls [] t.leads
-          (answer_here t.now t.step (Fault t.performed) t.asks) in
+    leads_on (whole_call pend caller regs) t.now (rest_of t.now (gets.Answer (Fault t.performed))) (pairs_of t.before) (t.step gives Fault t.performed ∷ []) t.polls [] t.leads
+    (answer_here t.now t.step (Fault t.performed) t.asks) in
     let same : steps ++ rest ≡ cut_made ++ [] = sym e ∙ t.made_is ∙ sym (append-nil cut_made) in
     let reaches : length (pairs_of t.before ++ t.step gives Fault t.performed ∷ []) ≤ length (pairs_of steps) =
-        whole_reaches (whole_call pend caller regs) (rest_of t.now (gets.Answer (Fault t.performed))) (pairs_of steps)
-          (pairs_of t.before ++ t.step gives Fault t.performed ∷ []) h.polls (t.polls ++ []) h.end
-          (call_complete pend caller regs (pairs_of steps) h.polls h.end h.call).0 leads
-          (subst (λ (l : List Asked). Agree (answers_of (pairs_of steps)) (answers_of l)) (pairs_more t.before m) (answers_agree steps cut_made rest [] same)) agree in
+    whole_reaches (whole_call pend caller regs) (rest_of t.now (gets.Answer (Fault t.performed))) (pairs_of steps)
+    (pairs_of t.before ++ t.step gives Fault t.performed ∷ []) h.polls (t.polls ++ []) h.end
+    (call_complete pend caller regs (pairs_of steps) h.polls h.end h.call).0 leads
+    (subst (λ (l : List Asked). Agree (answers_of (pairs_of steps)) (answers_of l)) (pairs_more t.before m) (answers_agree steps cut_made rest [] same)) agree in
     let long : length (pairs_of cut_made) ≤ length (pairs_of steps) =
-        subst (λ (l : List Asked). length l ≤ length (pairs_of steps)) (sym (pairs_more t.before m)) reaches in
+    subst (λ (l : List Asked). length l ≤ length (pairs_of steps)) (sym (pairs_more t.before m)) reaches in
     let mine : length (pairs_of steps) ≡ length steps = pairs_length steps in
     let yours : length (pairs_of cut_made) ≡ length cut_made = pairs_length cut_made in
     let sum : length steps + length rest ≡ length cut_made + 0 = sym (length-append steps rest) ∙ ap (λ (l : List Made). length l) same ∙ length-append cut_made [] in
@@ -330,8 +333,8 @@ same_call_cut : (pend : Bool) (caller : Caller) (regs : Regs) (number : ℕ) (ma
     → IsCallCut pend caller regs number made asked ticket → IsCallCut pend caller regs number made also again → ticket ≡ again
 same_call_cut pend caller regs number made asked also ticket again h t =
     ap (λ (m : Made). m.ticket) (last_made h.before t.before
-      (record { ticket = ticket; step = h.step; answer = Fault h.performed })
-      (record { ticket = again; step = t.step; answer = Fault t.performed }) (sym h.made_is ∙ t.made_is))
+    (record { ticket = ticket; step = h.step; answer = Fault h.performed })
+    (record { ticket = again; step = t.step; answer = Fault t.performed }) (sym h.made_is ∙ t.made_is))
 
 same_cut : (caller : Caller) (request : Request) (made : List Made) (asked also : List Event) (ticket again : ℕ)
     → IsCutOff caller request made asked ticket → IsCutOff caller request made also again → ticket ≡ again
@@ -359,101 +362,101 @@ module _ (lines : List HostLine) (core : ℕ) where
   one_reading (request ∷ script) caller due world made events others outcomes later end ending
       (goes steps rest runs asked behind outcome more made_is events_are outcomes_are run piece next)
       (goes steps_t rest_t runs_t asked_t behind_t outcome_t more_t made_is_t events_are_t outcomes_are_t run_t piece_t next_t) a b =
-    let ga : AreGiven lines core world (runs ++ (asked ++ behind)) = subst (λ (l : List Event). AreGiven lines core world l) events_are a in
-    let gb : AreGiven lines core world (runs_t ++ (asked_t ++ behind_t)) = subst (λ (l : List Event). AreGiven lines core world l) events_are_t b in
-    let same_runs : runs ≡ runs_t = same_run lines core caller due world runs runs_t run run_t
-        (given_front lines core world runs (asked ++ behind) ga) (given_front lines core world runs_t (asked_t ++ behind_t) gb) in
-    let then : Scripted = worlds_after world runs in
-    let ra : AreGiven lines core then (asked ++ behind) = given_rest lines core world runs (asked ++ behind) ga in
-    let rb : AreGiven lines core then (asked_t ++ behind_t) = subst (λ (l : List Event). AreGiven lines core (worlds_after world l) (asked_t ++ behind_t)) (sym same_runs)
-        (given_rest lines core world runs_t (asked_t ++ behind_t) gb) in
-    let p : SamePiece steps steps_t rest rest_t asked asked_t outcome outcome_t =
-        same_piece lines core then caller request steps steps_t rest rest_t asked asked_t outcome outcome_t (sym made_is ∙ made_is_t) piece piece_t
-          (given_front lines core then asked behind ra) (given_front lines core then asked_t behind_t rb) in
-    let last : Scripted = worlds_after then asked in
-    let la : AreGiven lines core last behind = given_rest lines core then asked behind ra in
-    let lb : AreGiven lines core last behind_t = subst (λ (l : List Event). AreGiven lines core (worlds_after then l) behind_t) (sym p.asked_are)
-        (given_rest lines core then asked_t behind_t rb) in
-    let next_s : Reads script (caller_after caller steps) (is_call request) rest_t behind_t more_t ending =
-        subst (λ (l : List Made). Reads script (caller_after caller l) (is_call request) rest_t behind_t more_t ending) (sym p.steps_are) next_t in
-    let next_u : Reads script (caller_after caller steps) (is_call request) rest behind_t more_t ending =
-        subst (λ (l : List Made). Reads script (caller_after caller steps) (is_call request) l behind_t more_t ending) (sym p.rest_is) next_s in
-    let r : SameRun more more_t end ending =
-        one_reading script (caller_after caller steps) (is_call request) last rest behind behind_t more more_t end ending next next_u la lb in
-    record {
-      outcomes_are = outcomes_are ∙ ap (λ (o : Outcome). o ∷ more) p.outcome_is ∙ ap (λ (l : List Outcome). outcome_t ∷ l) r.outcomes_are ∙ sym outcomes_are_t;
-      end_is = r.end_is;
-    }
+      let ga : AreGiven lines core world (runs ++ (asked ++ behind)) = subst (λ (l : List Event). AreGiven lines core world l) events_are a in
+      let gb : AreGiven lines core world (runs_t ++ (asked_t ++ behind_t)) = subst (λ (l : List Event). AreGiven lines core world l) events_are_t b in
+      let same_runs : runs ≡ runs_t = same_run lines core caller due world runs runs_t run run_t
+      (given_front lines core world runs (asked ++ behind) ga) (given_front lines core world runs_t (asked_t ++ behind_t) gb) in
+      let then : Scripted = worlds_after world runs in
+      let ra : AreGiven lines core then (asked ++ behind) = given_rest lines core world runs (asked ++ behind) ga in
+      let rb : AreGiven lines core then (asked_t ++ behind_t) = subst (λ (l : List Event). AreGiven lines core (worlds_after world l) (asked_t ++ behind_t)) (sym same_runs)
+      (given_rest lines core world runs_t (asked_t ++ behind_t) gb) in
+      let p : SamePiece steps steps_t rest rest_t asked asked_t outcome outcome_t =
+      same_piece lines core then caller request steps steps_t rest rest_t asked asked_t outcome outcome_t (sym made_is ∙ made_is_t) piece piece_t
+      (given_front lines core then asked behind ra) (given_front lines core then asked_t behind_t rb) in
+      let last : Scripted = worlds_after then asked in
+      let la : AreGiven lines core last behind = given_rest lines core then asked behind ra in
+      let lb : AreGiven lines core last behind_t = subst (λ (l : List Event). AreGiven lines core (worlds_after then l) behind_t) (sym p.asked_are)
+      (given_rest lines core then asked_t behind_t rb) in
+      let next_s : Reads script (caller_after caller steps) (is_call request) rest_t behind_t more_t ending =
+      subst (λ (l : List Made). Reads script (caller_after caller l) (is_call request) rest_t behind_t more_t ending) (sym p.steps_are) next_t in
+      let next_u : Reads script (caller_after caller steps) (is_call request) rest behind_t more_t ending =
+      subst (λ (l : List Made). Reads script (caller_after caller steps) (is_call request) l behind_t more_t ending) (sym p.rest_is) next_s in
+      let r : SameRun more more_t end ending =
+      one_reading script (caller_after caller steps) (is_call request) last rest behind behind_t more more_t end ending next next_u la lb in
+      record {
+        outcomes_are = outcomes_are ∙ ap (λ (o : Outcome). o ∷ more) p.outcome_is ∙ ap (λ (l : List Outcome). outcome_t ∷ l) r.outcomes_are ∙ sym outcomes_are_t;
+        end_is = r.end_is;
+      }
   one_reading (request ∷ script) caller due world made events others outcomes later end ending
       (goes steps rest runs asked behind outcome more made_is events_are outcomes_are run piece next)
       (cut runs_t asked_t ticket events_are_t outcomes_are_t end_is run_t cut_t) a b =
-    let ga : AreGiven lines core world (runs ++ (asked ++ behind)) = subst (λ (l : List Event). AreGiven lines core world l) events_are a in
-    let gb : AreGiven lines core world (runs_t ++ asked_t) = subst (λ (l : List Event). AreGiven lines core world l) events_are_t b in
-    let same_runs : runs ≡ runs_t = same_run lines core caller due world runs runs_t run run_t
-        (given_front lines core world runs (asked ++ behind) ga) (given_front lines core world runs_t asked_t gb) in
-    let then : Scripted = worlds_after world runs in
-    let ra : AreGiven lines core then (asked ++ behind) = given_rest lines core world runs (asked ++ behind) ga in
-    let rb : AreGiven lines core then asked_t = subst (λ (l : List Event). AreGiven lines core (worlds_after world l) asked_t) (sym same_runs)
-        (given_rest lines core world runs_t asked_t gb) in
-    absurd (cut_here lines core then caller request made steps rest asked asked_t outcome ticket made_is piece cut_t
+      let ga : AreGiven lines core world (runs ++ (asked ++ behind)) = subst (λ (l : List Event). AreGiven lines core world l) events_are a in
+      let gb : AreGiven lines core world (runs_t ++ asked_t) = subst (λ (l : List Event). AreGiven lines core world l) events_are_t b in
+      let same_runs : runs ≡ runs_t = same_run lines core caller due world runs runs_t run run_t
+      (given_front lines core world runs (asked ++ behind) ga) (given_front lines core world runs_t asked_t gb) in
+      let then : Scripted = worlds_after world runs in
+      let ra : AreGiven lines core then (asked ++ behind) = given_rest lines core world runs (asked ++ behind) ga in
+      let rb : AreGiven lines core then asked_t = subst (λ (l : List Event). AreGiven lines core (worlds_after world l) asked_t) (sym same_runs)
+      (given_rest lines core world runs_t asked_t gb) in
+      absurd (cut_here lines core then caller request made steps rest asked asked_t outcome ticket made_is piece cut_t
       (given_front lines core then asked behind ra) rb)
   one_reading (request ∷ script) caller due world made events others outcomes later end ending
       (goes steps rest runs asked behind outcome more made_is events_are outcomes_are run piece next)
       (wrong got due_is made_t events_are_t outcomes_are_t end_is bad) a b =
-    let ga : AreGiven lines core world (runs ++ (asked ++ behind)) = subst (λ (l : List Event). AreGiven lines core world l) events_are a in
-    let gb : AreGiven lines core world (sent (run_value caller) got ∷ []) = subst (λ (l : List Event). AreGiven lines core world l) events_are_t b in
-    absurd (true_false _ (right_run lines core caller due world runs run due_is (given_front lines core world runs (asked ++ behind) ga))
+      let ga : AreGiven lines core world (runs ++ (asked ++ behind)) = subst (λ (l : List Event). AreGiven lines core world l) events_are a in
+      let gb : AreGiven lines core world (sent (run_value caller) got ∷ []) = subst (λ (l : List Event). AreGiven lines core world l) events_are_t b in
+      absurd (true_false _ (right_run lines core caller due world runs run due_is (given_front lines core world runs (asked ++ behind) ga))
       (wrong_run lines core caller world got bad gb))
   one_reading (request ∷ script) caller due world made events others outcomes later end ending
       (cut runs_t asked_t ticket events_are_t outcomes_are_t end_is run_t cut_t)
       (goes steps rest runs asked behind outcome more made_is events_are outcomes_are run piece next) b a =
-    let ga : AreGiven lines core world (runs ++ (asked ++ behind)) = subst (λ (l : List Event). AreGiven lines core world l) events_are a in
-    let gb : AreGiven lines core world (runs_t ++ asked_t) = subst (λ (l : List Event). AreGiven lines core world l) events_are_t b in
-    let same_runs : runs ≡ runs_t = same_run lines core caller due world runs runs_t run run_t
-        (given_front lines core world runs (asked ++ behind) ga) (given_front lines core world runs_t asked_t gb) in
-    let then : Scripted = worlds_after world runs in
-    let ra : AreGiven lines core then (asked ++ behind) = given_rest lines core world runs (asked ++ behind) ga in
-    let rb : AreGiven lines core then asked_t = subst (λ (l : List Event). AreGiven lines core (worlds_after world l) asked_t) (sym same_runs)
-        (given_rest lines core world runs_t asked_t gb) in
-    absurd (cut_here lines core then caller request made steps rest asked asked_t outcome ticket made_is piece cut_t
+      let ga : AreGiven lines core world (runs ++ (asked ++ behind)) = subst (λ (l : List Event). AreGiven lines core world l) events_are a in
+      let gb : AreGiven lines core world (runs_t ++ asked_t) = subst (λ (l : List Event). AreGiven lines core world l) events_are_t b in
+      let same_runs : runs ≡ runs_t = same_run lines core caller due world runs runs_t run run_t
+      (given_front lines core world runs (asked ++ behind) ga) (given_front lines core world runs_t asked_t gb) in
+      let then : Scripted = worlds_after world runs in
+      let ra : AreGiven lines core then (asked ++ behind) = given_rest lines core world runs (asked ++ behind) ga in
+      let rb : AreGiven lines core then asked_t = subst (λ (l : List Event). AreGiven lines core (worlds_after world l) asked_t) (sym same_runs)
+      (given_rest lines core world runs_t asked_t gb) in
+      absurd (cut_here lines core then caller request made steps rest asked asked_t outcome ticket made_is piece cut_t
       (given_front lines core then asked behind ra) rb)
   one_reading (request ∷ script) caller due world made events others outcomes later end ending
       (cut runs asked ticket events_are outcomes_are end_is run cut_h)
       (cut runs_t asked_t ticket_t events_are_t outcomes_are_t end_is_t run_t cut_t) a b =
-    record {
-      outcomes_are = outcomes_are ∙ sym outcomes_are_t;
-      end_is = end_is ∙ ap ends.Faulted (same_cut caller request made asked asked_t ticket ticket_t cut_h cut_t) ∙ sym end_is_t;
-    }
+      record {
+        outcomes_are = outcomes_are ∙ sym outcomes_are_t;
+        end_is = end_is ∙ ap ends.Faulted (same_cut caller request made asked asked_t ticket ticket_t cut_h cut_t) ∙ sym end_is_t;
+      }
   one_reading (request ∷ script) caller due world made events others outcomes later end ending
       (cut runs asked ticket events_are outcomes_are end_is run cut_h)
       (wrong got due_is made_t events_are_t outcomes_are_t end_is_t bad) a b =
-    let ga : AreGiven lines core world (runs ++ asked) = subst (λ (l : List Event). AreGiven lines core world l) events_are a in
-    let gb : AreGiven lines core world (sent (run_value caller) got ∷ []) = subst (λ (l : List Event). AreGiven lines core world l) events_are_t b in
-    absurd (true_false _ (right_run lines core caller due world runs run due_is (given_front lines core world runs asked ga))
+      let ga : AreGiven lines core world (runs ++ asked) = subst (λ (l : List Event). AreGiven lines core world l) events_are a in
+      let gb : AreGiven lines core world (sent (run_value caller) got ∷ []) = subst (λ (l : List Event). AreGiven lines core world l) events_are_t b in
+      absurd (true_false _ (right_run lines core caller due world runs run due_is (given_front lines core world runs asked ga))
       (wrong_run lines core caller world got bad gb))
   one_reading (request ∷ script) caller due world made events others outcomes later end ending
       (wrong got due_is made_t events_are_t outcomes_are_t end_is_t bad)
       (goes steps rest runs asked behind outcome more made_is events_are outcomes_are run piece next) b a =
-    let ga : AreGiven lines core world (runs ++ (asked ++ behind)) = subst (λ (l : List Event). AreGiven lines core world l) events_are a in
-    let gb : AreGiven lines core world (sent (run_value caller) got ∷ []) = subst (λ (l : List Event). AreGiven lines core world l) events_are_t b in
-    absurd (true_false _ (right_run lines core caller due world runs run due_is (given_front lines core world runs (asked ++ behind) ga))
+      let ga : AreGiven lines core world (runs ++ (asked ++ behind)) = subst (λ (l : List Event). AreGiven lines core world l) events_are a in
+      let gb : AreGiven lines core world (sent (run_value caller) got ∷ []) = subst (λ (l : List Event). AreGiven lines core world l) events_are_t b in
+      absurd (true_false _ (right_run lines core caller due world runs run due_is (given_front lines core world runs (asked ++ behind) ga))
       (wrong_run lines core caller world got bad gb))
   one_reading (request ∷ script) caller due world made events others outcomes later end ending
       (wrong got due_is made_t events_are_t outcomes_are_t end_is_t bad)
       (cut runs asked ticket events_are outcomes_are end_is run cut_h) b a =
-    let ga : AreGiven lines core world (runs ++ asked) = subst (λ (l : List Event). AreGiven lines core world l) events_are a in
-    let gb : AreGiven lines core world (sent (run_value caller) got ∷ []) = subst (λ (l : List Event). AreGiven lines core world l) events_are_t b in
-    absurd (true_false _ (right_run lines core caller due world runs run due_is (given_front lines core world runs asked ga))
+      let ga : AreGiven lines core world (runs ++ asked) = subst (λ (l : List Event). AreGiven lines core world l) events_are a in
+      let gb : AreGiven lines core world (sent (run_value caller) got ∷ []) = subst (λ (l : List Event). AreGiven lines core world l) events_are_t b in
+      absurd (true_false _ (right_run lines core caller due world runs run due_is (given_front lines core world runs asked ga))
       (wrong_run lines core caller world got bad gb))
   one_reading (request ∷ script) caller due world made events others outcomes later end ending
       (wrong got due_is made_h events_are outcomes_are end_is bad)
       (wrong got_t due_is_t made_t events_are_t outcomes_are_t end_is_t bad_t) a b =
-    let ga : AreGiven lines core world (sent (run_value caller) got ∷ []) = subst (λ (l : List Event). AreGiven lines core world l) events_are a in
-    let gb : AreGiven lines core world (sent (run_value caller) got_t ∷ []) = subst (λ (l : List Event). AreGiven lines core world l) events_are_t b in
-    record {
-      outcomes_are = outcomes_are ∙ sym outcomes_are_t;
-      end_is = end_is ∙ ap (λ (x : ℕ). ends.Host (run_value caller) x) (ga.0 ∙ sym gb.0) ∙ sym end_is_t;
-    }
+      let ga : AreGiven lines core world (sent (run_value caller) got ∷ []) = subst (λ (l : List Event). AreGiven lines core world l) events_are a in
+      let gb : AreGiven lines core world (sent (run_value caller) got_t ∷ []) = subst (λ (l : List Event). AreGiven lines core world l) events_are_t b in
+      record {
+        outcomes_are = outcomes_are ∙ sym outcomes_are_t;
+        end_is = end_is ∙ ap (λ (x : ℕ). ends.Host (run_value caller) x) (ga.0 ∙ sym gb.0) ∙ sym end_is_t;
+      }
 
 pub one_core_run : (lines : List HostLine) (core : ℕ) (caller : Caller) (script : List Request) (made : List Made)
     (events others : List Event) (outcomes later : List Outcome) (end ending : CoreEnd)
@@ -462,6 +465,6 @@ pub one_core_run : (lines : List HostLine) (core : ℕ) (caller : Caller) (scrip
     → (outcomes ≡ later) × (end ≡ ending)
 one_core_run lines core caller script made events others outcomes later end ending h t a b =
     let r : SameRun outcomes later end ending =
-        one_reading lines core script caller true fresh_world made events others outcomes later end ending
-          (read_run caller script made events outcomes end h) (read_run caller script made others later ending t) a b in
+    one_reading lines core script caller true fresh_world made events others outcomes later end ending
+    (read_run caller script made events outcomes end h) (read_run caller script made others later ending t) a b in
     (r.outcomes_are, r.end_is)
