@@ -5,7 +5,6 @@ use Rattle.std.proofs.lemmas.Bool.{cases_Bool, eqb-true, eqb-false}
 use Rattle.std.proofs.lemmas.Grind.{common_steps}
 use mathlib.Core.Path.{fun_ext}
 use Rattle.svsm_types.specs.declared.vcpu.Row.{Row}
-use Rattle.svsm_types.specs.Numbers.{Numbers}
 use Rattle.svsm_steps.specs.declared.step.Step.{Step}
 use Rattle.svsm_steps.specs.declared.step.Step.TheVariants.{Enter, Leave}
 use Rattle.svsm_steps.specs.declared.answer.Answer.{Answer}
@@ -32,7 +31,7 @@ set_other (x ∷ tables) (suc k) zero table apart = refl
 set_other (x ∷ tables) (suc k) (suc n) table apart = set_other tables k n table (λ e. apart (ap suc e))
 
 -- the table at an index is the region of that number
-view_at : (tables : List RegionTable) (k : ℕ) (none : RegionTable) → k < length tables → region_view (get_or tables k none) ≡ region_at tables k
+pub view_at : (tables : List RegionTable) (k : ℕ) (none : RegionTable) → k < length tables → region_view (get_or tables k none) ≡ region_at tables k
 view_at [] k none low = absurd (omega arith)
 view_at (x ∷ tables) zero none low = refl
 view_at (x ∷ tables) (suc k) none low = view_at tables k none (omega arith)
@@ -48,17 +47,17 @@ if_not true x y h = cc
 set_at : (tables : List RegionTable) (k n : ℕ) (table : RegionTable) → k < length tables → region_at (set tables k table) n ≡ (if k == n then region_view table else region_at tables n)
 set_at tables k n table low = ⊎_elim
     (λ (e : (k == n) ≡ true).
-        subst (λ (m : ℕ). region_at (set tables k table) m ≡ region_view table) (eqb-true k n e) (set_same tables k table low)
-        ∙ if_so (k == n) (region_view table) (region_at tables n) e)
+    subst (λ (m : ℕ). region_at (set tables k table) m ≡ region_view table) (eqb-true k n e) (set_same tables k table low)
+    ∙ if_so (k == n) (region_view table) (region_at tables n) e)
     (λ (e : (k == n) ≡ false).
-        set_other tables k n table (eqb-false k n e) ∙ if_not (k == n) (region_view table) (region_at tables n) e)
+    set_other tables k n table (eqb-false k n e) ∙ if_not (k == n) (region_view table) (region_at tables n) e)
     (cases_Bool (k == n))
 
-abbrev machine_state : List Block → List Row → (ℕ → RegionState) → State
+abbrev pub machine_state : List Block → List Row → (ℕ → RegionState) → State
 machine_state pool rows regions = record { regions = regions; pool = pool; rows = rows }
 
 -- another table at an index is another value of one region
-set_region : (pool : List Block) (rows : List Row) (tables : List RegionTable) (k : ℕ) (table : RegionTable) → k < length tables
+pub set_region : (pool : List Block) (rows : List Row) (tables : List RegionTable) (k : ℕ) (table : RegionTable) → k < length tables
     → machine_state pool rows (region_at (set tables k table)) ≡ with_region k (region_view table) (machine_state pool rows (region_at tables))
 set_region pool rows tables k table low = ap (machine_state pool rows) (fun_ext (λ n. set_at tables k n table low))
 
@@ -72,7 +71,7 @@ same_regions : (tables : List RegionTable) (k : ℕ) (table none : RegionTable) 
 same_regions tables k table none low same = fun_ext (λ n.
     set_at tables k n table low
     ∙ same_by (k == n) (region_view table) (region_view (get_or tables k none)) (region_at tables n) same
-        (λ e. view_at tables k none low ∙ ap (region_at tables) (eqb-true k n e)))
+    (λ e. view_at tables k none low ∙ ap (region_at tables) (eqb-true k n e)))
 
 pub same_state : (pool : List Block) (rows : List Row) (tables : List RegionTable) (k : ℕ) (old new : RegionTable) → k < length tables
     → old ≡ get_or tables k old → region_view new ≡ region_view old
@@ -101,8 +100,8 @@ pub performs_at : (constants : Constants) (pool : List Block) (rows : List Row) 
     → Performs constants (machine_state pool rows (region_at tables)) step answer (machine_state pool rows (region_at (set tables k new)))
 performs_at constants pool rows tables k old new step answer is_region place low at is =
     subst (λ (after : State). Performs constants (machine_state pool rows (region_at tables)) step answer after) (sym (set_region pool rows tables k new low))
-        (performs_region constants (machine_state pool rows (region_at tables)) step answer k (region_view new) is_region place
-            (subst (λ (r : RegionState). PerformsIn r step answer (region_view new)) (ap region_view at ∙ view_at tables k old low) is))
+    (performs_region constants (machine_state pool rows (region_at tables)) step answer k (region_view new) is_region place
+    (subst (λ (r : RegionState). PerformsIn r step answer (region_view new)) (ap region_view at ∙ view_at tables k old low) is))
 
 -- what a Vec holds after all its elements were written through a slice
 pub written_all : (len : ℕ) (old new : List Row) → len ≡ length old → length new ≡ length old → take len (new ++ drop (length new) old) ≡ new

@@ -2,3 +2,4 @@ pub mod Views
 pub mod Performed
 pub mod Moved
 pub mod Built
+pub mod Plain

@@ -2,6 +2,7 @@
 #![tactic(auto)]
 
 mod access;
+mod boot;
 mod cells;
 mod machine;
 mod region;

@@ -16,15 +16,15 @@ use svsm_types::{Gpa, NoMemory, Page, RmpRow, Row, Size, Vmpl, page_of, region_o
 /// The whole machine in plain tables.
 #[derive(Drop)]
 pub struct Machine {
-    pub regions: Vec<RegionTable>,
+    pub(crate) regions: Vec<RegionTable>,
     /// The blocks of the pool, in the order of pushing.
-    pub blocks: Vec<(Page, Size)>,
-    pub rows: Vec<Row>,
+    pub(crate) blocks: Vec<(Page, Size)>,
+    pub(crate) rows: Vec<Row>,
     /// The privilege level of the guest.
-    pub vmpl: Vmpl,
-    pub features: u64,
+    pub(crate) vmpl: Vmpl,
+    pub(crate) features: u64,
     /// The APIC ids of the cores, by their numbers.
-    pub apics: Vec<u32>,
+    pub(crate) apics: Vec<u32>,
 }
 
 // The index of the region of an address.

@@ -21,7 +21,7 @@ avail_complete caller (Some left) regs pairs h = rw h.1 (refl, (refl, refl, refl
 finish_complete : (w : Listed) (k : ℕ) (left : Option ℕ) (end : End) (stored : Answer) (pairs : List Asked)
     → IsAvail w.caller left pairs
     → IsWhole (finish w k left end) (StoreNext w.caller.vmpl (list_of w.regs) k gives stored ∷ pairs) []
-        (Reply (list_reply w.call w.regs (k - w.first) (reply_code end stored)))
+    (Reply (list_reply w.call w.regs (k - w.first) (reply_code end stored)))
 finish_complete w k left end stored pairs h =
     (refl, avail_complete w.caller left (list_reply w.call w.regs (k - w.first) (reply_code end stored)) pairs h)
 
@@ -55,7 +55,7 @@ dry_complete : (call : ListCall) (caller : Caller) (regs : Regs) (first j : ℕ)
     → call ≡ withdraw → is_size word ≡ true
     → IsWhole (finish (over call caller regs first) j (Some now) dry) pairs [] outcome
     → IsWhole (ask (loads (over call caller regs first) j) (on_entry (over call caller regs first) j left f))
-        (loaded (over call caller regs first) j word ∷ PoolPop (size_of word) gives Empty now ∷ pairs) [] outcome
+    (loaded (over call caller regs first) j word ∷ PoolPop (size_of word) gives Empty now ∷ pairs) [] outcome
 dry_complete withdraw caller regs first j left f word now pairs outcome e size h = (refl, rw size (refl, h))
 dry_complete _ caller regs first j left f word now pairs outcome e size h = cc
 
@@ -104,32 +104,32 @@ module _ (call : ListCall) (caller : Caller) (regs : Regs) (first n : ℕ) (stor
       let w : Listed = over call caller regs first in
       let failing : IsFailed w j call tail code = subst (λ (i : ℕ). IsFailed w i call tail code) same is in
       let done : IsWhole (finish w j (pool_left left tail) (failed code)) (stores k) [] (replies_with k (failed code)) =
-          subst (λ (i : ℕ). IsWhole (finish w i (pool_left left tail) (failed code)) (stores k) [] (replies_with k (failed code))) same
-            (finish_complete w k (pool_left left tail) (failed code) stored avails h) in
+      subst (λ (i : ℕ). IsWhole (finish w i (pool_left left tail) (failed code)) (stores k) [] (replies_with k (failed code))) same
+      (finish_complete w k (pool_left left tail) (failed code) stored avails h) in
       fail_complete call caller regs first j left f tail (stores k) code (replies_with k (failed code)) failing done
   here_complete j k left f _ _ _ same (dry_here word now is size) h =
       let w : Listed = over call caller regs first in
       let done : IsWhole (finish w j (Some now) dry) (stores k) [] (replies_with k dry) =
-          subst (λ (i : ℕ). IsWhole (finish w i (Some now) dry) (stores k) [] (replies_with k dry)) same
-            (finish_complete w k (Some now) dry stored avails h) in
+      subst (λ (i : ℕ). IsWhole (finish w i (Some now) dry) (stores k) [] (replies_with k dry)) same
+      (finish_complete w k (Some now) dry stored avails h) in
       subst (λ (i : ℕ). IsWhole (ask (loads w j) (on_entry w j left f)) (loaded w i word ∷ PoolPop (size_of word) gives Empty now ∷ stores k) [] (replies_with k dry)) (sym same)
-        (dry_complete call caller regs first j left f word now (stores k) (replies_with k dry) is size done)
+      (dry_complete call caller regs first j left f word now (stores k) (replies_with k dry) is size done)
 
   after_complete : (j more m k : ℕ) (left : Option ℕ) (end : End) (tail : List Asked) (polls : List Bool) (parts : List (List Asked))
       → (j + 1) + more ≡ n → k ≡ (j + 1) + length parts → m ≡ length parts → EndAfter (over call caller regs first) n k m end tail polls
       → IsAvail caller (pool_left left (joined parts ++ tail)) avails
       → ((again : List Bool) → 0 < more → IsEnd (over call caller regs first) n k (length parts) end tail again
-          → IsWhole (entries_from (over call caller regs first) more (j + 1) left) (joined parts ++ (tail ++ stores k)) again (replies_with k end))
+      → IsWhole (entries_from (over call caller regs first) more (j + 1) left) (joined parts ++ (tail ++ stores k)) again (replies_with k end))
       → IsWhole (polled (over call caller regs first) more (j + 1) left (entries_from (over call caller regs first) more (j + 1) left)) (joined parts ++ (tail ++ stores k)) polls (replies_with k end)
   unfolding stores replies_with
   after_complete j zero m k left end tail polls [] at at_k at_m now_whole h rest =
       subst (λ (i : ℕ). IsWhole (finish (over call caller regs first) i left whole) (stores k) [] (replies_with k whole)) (at_k ∙ omega arith)
-        (finish_complete (over call caller regs first) k left whole stored avails h)
+      (finish_complete (over call caller regs first) k left whole stored avails h)
   after_complete j (suc more) m k left end tail polls [] at at_k at_m now_whole h rest = absurd (omega arith)
   after_complete j more m k left end tail polls (part ∷ parts) at at_k at_m now_whole h rest = absurd (omega arith)
   after_complete j (suc more) m k left end tail polls [] at at_k at_m (now_stopped _ below) h rest =
       subst (λ (i : ℕ). IsWhole (finish (over call caller regs first) i left stopped) (stores k) [] (replies_with k stopped)) (at_k ∙ omega arith)
-        (finish_complete (over call caller regs first) k left stopped stored avails h)
+      (finish_complete (over call caller regs first) k left stopped stored avails h)
   after_complete j zero m k left end tail polls [] at at_k at_m (now_stopped _ below) h rest = absurd (omega arith)
   after_complete j more m k left end tail polls (part ∷ parts) at at_k at_m (now_stopped _ below) h rest = absurd (omega arith)
   after_complete j zero m k left end tail _ parts at at_k at_m (later _ _ _ _ polls e) h rest =
@@ -158,12 +158,12 @@ module _ (call : ListCall) (caller : Caller) (regs : Regs) (first n : ℕ) (stor
       let at_k_then : k ≡ (j + 1) + length parts = omega arith in
       let left_then : Option ℕ = pool_left left part in
       let same : pool_left left ((part ++ joined parts) ++ tail) ≡ pool_left left_then (joined parts ++ tail) =
-          rw append_assoc (pool_left_parts left part (joined parts ++ tail)) in
+      rw append_assoc (pool_left_parts left part (joined parts ++ tail)) in
       let h_then : IsAvail caller (pool_left left_then (joined parts ++ tail)) avails =
-          subst (λ (l : Option ℕ). IsAvail caller l avails) same h in
+      subst (λ (l : Option ℕ). IsAvail caller l avails) same h in
       rw append_assoc (part_complete call caller regs first j left after part (joined parts ++ (tail ++ stores k)) polls (replies_with k end) performed.0
-        (after_complete j more (length parts) k left_then end tail polls parts (omega arith) at_k_then refl (end_after w n k (length parts) end tail polls e) h_then
-          (λ again some is. walk_complete parts (j + 1) more k left_then end tail again (omega arith) some at_k_then performed.1 is h_then)))
+      (after_complete j more (length parts) k left_then end tail polls parts (omega arith) at_k_then refl (end_after w n k (length parts) end tail polls e) h_then
+      (λ again some is. walk_complete parts (j + 1) more k left_then end tail again (omega arith) some at_k_then performed.1 is h_then)))
 
 walk_whole : (call : ListCall) (caller : Caller) (regs : Regs) (first n : ℕ) (pairs : List Asked) (polls : List Bool) (outcome : Do) → first < n
     → IsWalk (over call caller regs first) n pairs polls outcome
@@ -173,8 +173,8 @@ walk_whole call caller regs first n pairs polls outcome below walk =
     let performed : (first + length walk.parts) - first ≡ length walk.parts = omega arith in
     let replied : outcome ≡ Reply (list_reply call regs ((first + length walk.parts) - first) (reply_code walk.end walk.stored)) = rw performed walk.replied in
     rw (walk.made, replied)
-      (walk_complete call caller regs first n walk.stored walk.avail walk.parts first (n - first) (first + length walk.parts) None walk.end walk.tail polls
-        (omega arith) (omega arith) refl walk.performed walk.ends walk.avails)
+    (walk_complete call caller regs first n walk.stored walk.avail walk.parts first (n - first) (first + length walk.parts) None walk.end walk.tail polls
+    (omega arith) (omega arith) refl walk.performed walk.ends walk.avails)
 
 pub list_complete : (call : ListCall) (caller : Caller) (regs : Regs) (pairs : List Asked) (polls : List Bool) (outcome : Do)
     → IsListCall call caller regs pairs polls outcome → IsWhole (list_call call caller regs) pairs polls outcome

@@ -3,3 +3,10 @@ pub mod Plain
 pub mod Back
 pub mod Whole
 pub mod Prefix
+pub mod FormedLemmas
+pub mod Rows
+pub mod Leads
+pub mod Bounds
+pub mod Readings
+pub mod OneRun
+pub mod OneWave

@@ -155,7 +155,7 @@ module _ (call : ListCall) (caller : Caller) (regs : Regs) (first n j : ℕ) (le
       → Walked (over call caller regs first) n j left (tail ++ pairs) polls outcome
   fails left_then tail code is same pairs polls h =
       ended (over call caller regs first) n j left left_then (failed code) tail pairs polls outcome (at_failed 0 j code tail below is) same
-        (finish_sound (over call caller regs first) j left_then (failed code) pairs polls outcome h)
+      (finish_sound (over call caller regs first) j left_then (failed code) pairs polls outcome h)
 
 -- PVALIDATE
 module _ (caller : Caller) (regs : Regs) (first n j : ℕ) (left : Option ℕ) (below : j < n) (outcome : Do) (f : Option ℕ → Dialogue)
@@ -164,7 +164,7 @@ module _ (caller : Caller) (regs : Regs) (first n j : ℕ) (left : Option ℕ) (
       → (pairs : List Asked) (polls : List Bool) → AreListed pairs
       → IsWhole (if ignored then f left else finish (over pvalidate caller regs first) j left (failed page_unchanged)) pairs polls outcome
       → Walked (over pvalidate caller regs first) n j left
-          (loaded (over pvalidate caller regs first) j word ∷ validates (over pvalidate caller regs first) word gives Unchanged ∷ pairs) polls outcome
+      (loaded (over pvalidate caller regs first) j word ∷ validates (over pvalidate caller regs first) word gives Unchanged ∷ pairs) polls outcome
   same_sound word size page true bit pairs polls a h = goes left pairs polls a h _ (was_so word size page bit) refl
   same_sound word size page false bit pairs polls a h =
       fails pvalidate caller regs first n j left below outcome left _ _ (validate_same word size page bit) refl pairs polls h
@@ -174,7 +174,7 @@ module _ (caller : Caller) (regs : Regs) (first n j : ℕ) (left : Option ℕ) (
       → (pairs : List Asked) (polls : List Bool) → AreListed pairs
       → IsWhole (on_validated (over pvalidate caller regs first) j word left f answer) pairs polls outcome
       → Walked (over pvalidate caller regs first) n j left
-          (loaded (over pvalidate caller regs first) j word ∷ validates (over pvalidate caller regs first) word gives answer ∷ pairs) polls outcome
+      (loaded (over pvalidate caller regs first) j word ∷ validates (over pvalidate caller regs first) word gives answer ∷ pairs) polls outcome
   validated_sound word size page Done may pairs polls a h = goes left pairs polls a h _ (validated word size page) refl
   validated_sound word size page Unchanged may pairs polls a h = same_sound word size page (has_bit 8 word) refl pairs polls a h
   validated_sound word size page (Hw code) may pairs polls a h =
@@ -186,14 +186,14 @@ module _ (caller : Caller) (regs : Regs) (first n j : ℕ) (left : Option ℕ) (
   pvalidate_part : (word : ℕ) → is_size word ≡ true → (refusal : Option ℕ) → page_refusal caller.regions word ≡ refusal
       → (pairs : List Asked) (polls : List Bool) → AreListed pairs
       → IsWhole (past_checks (over pvalidate caller regs first) j left refusal
-          (ask (validates (over pvalidate caller regs first) word) (on_validated (over pvalidate caller regs first) j word left f))) pairs polls outcome
+      (ask (validates (over pvalidate caller regs first) word) (on_validated (over pvalidate caller regs first) j word left f))) pairs polls outcome
       → Walked (over pvalidate caller regs first) n j left (loaded (over pvalidate caller regs first) j word ∷ pairs) polls outcome
   pvalidate_part word size (Some code) page pairs polls a h =
       fails pvalidate caller regs first n j left below outcome left _ _ (validate_page word code size page) refl pairs polls h
   pvalidate_part word size None page [] polls a h = absurd h
   pvalidate_part word size None page (asked ∷ pairs) polls a h =
       rw (is_gives asked (validates (over pvalidate caller regs first) word) h.0)
-        (validated_sound word size page asked.answer (may_give asked (validates (over pvalidate caller regs first) word) h.0 a.0) pairs polls a.1 h.1)
+      (validated_sound word size page asked.answer (may_give asked (validates (over pvalidate caller regs first) word) h.0 a.0) pairs polls a.1 h.1)
 
 -- DEPOSIT_MEM
 module _ (caller : Caller) (regs : Regs) (first n j : ℕ) (left : Option ℕ) (below : j < n) (outcome : Do) (f : Option ℕ → Dialogue)
@@ -203,8 +203,8 @@ module _ (caller : Caller) (regs : Regs) (first n j : ℕ) (left : Option ℕ) (
       → (pairs : List Asked) (polls : List Bool) → AreListed pairs
       → IsWhole (f (left_by answer)) pairs polls outcome
       → Walked (over deposit caller regs first) n j left
-          (loaded (over deposit caller regs first) j word ∷ deposits (over deposit caller regs first) word gives Done
-          ∷ PoolPush (entry_page word) (size_of word) gives answer ∷ pairs) polls outcome
+      (loaded (over deposit caller regs first) j word ∷ deposits (over deposit caller regs first) word gives Done
+      ∷ PoolPush (entry_page word) (size_of word) gives answer ∷ pairs) polls outcome
   pushed_sound word size page (Held held) may pairs polls a h = goes (Some held) pairs polls a h _ (deposited word held size page) refl
   pushed_sound word size page _ may pairs polls a h = cc
 
@@ -213,11 +213,11 @@ module _ (caller : Caller) (regs : Regs) (first n j : ℕ) (left : Option ℕ) (
       → (pairs : List Asked) (polls : List Bool) → AreListed pairs
       → IsWhole (on_deposited (over deposit caller regs first) j word left f answer) pairs polls outcome
       → Walked (over deposit caller regs first) n j left
-          (loaded (over deposit caller regs first) j word ∷ deposits (over deposit caller regs first) word gives answer ∷ pairs) polls outcome
+      (loaded (over deposit caller regs first) j word ∷ deposits (over deposit caller regs first) word gives answer ∷ pairs) polls outcome
   deposited_sound word size page Done may [] polls a h = absurd h
   deposited_sound word size page Done may (asked ∷ pairs) polls a h =
       rw (is_gives asked (PoolPush (entry_page word) (size_of word)) h.0)
-        (pushed_sound word size page asked.answer (may_give asked (PoolPush (entry_page word) (size_of word)) h.0 a.0) pairs polls a.1 h.1)
+      (pushed_sound word size page asked.answer (may_give asked (PoolPush (entry_page word) (size_of word)) h.0 a.0) pairs polls a.1 h.1)
   deposited_sound word size page (Hw code) may pairs polls a h =
       fails deposit caller regs first n j left below outcome left _ _ (deposit_code word code size page) refl pairs polls h
   deposited_sound word size page Refused may pairs polls a h =
@@ -227,26 +227,25 @@ module _ (caller : Caller) (regs : Regs) (first n j : ℕ) (left : Option ℕ) (
   deposit_part : (word : ℕ) → is_size word ≡ true → (refusal : Option ℕ) → page_refusal caller.regions word ≡ refusal
       → (pairs : List Asked) (polls : List Bool) → AreListed pairs
       → IsWhole (past_checks (over deposit caller regs first) j left refusal
-          (ask (deposits (over deposit caller regs first) word) (on_deposited (over deposit caller regs first) j word left f))) pairs polls outcome
+      (ask (deposits (over deposit caller regs first) word) (on_deposited (over deposit caller regs first) j word left f))) pairs polls outcome
       → Walked (over deposit caller regs first) n j left (loaded (over deposit caller regs first) j word ∷ pairs) polls outcome
   deposit_part word size (Some code) page pairs polls a h =
       fails deposit caller regs first n j left below outcome left _ _ (deposit_page word code size page) refl pairs polls h
   deposit_part word size None page [] polls a h = absurd h
   deposit_part word size None page (asked ∷ pairs) polls a h =
       rw (is_gives asked (deposits (over deposit caller regs first) word) h.0)
-        (deposited_sound word size page asked.answer (may_give asked (deposits (over deposit caller regs first) word) h.0 a.0) pairs polls a.1 h.1)
+      (deposited_sound word size page asked.answer (may_give asked (deposits (over deposit caller regs first) word) h.0 a.0) pairs polls a.1 h.1)
 
 -- WITHDRAW_MEM
 module _ (caller : Caller) (regs : Regs) (first n j : ℕ) (left : Option ℕ) (below : j < n) (outcome : Do) (f : Option ℕ → Dialogue)
     (goes : GoesAs withdraw caller regs first n j left outcome f) where
-
   released_sound : (word : ℕ) → is_size word ≡ true → (page : Page) (now : ℕ) (answer : Answer)
       → IsTrue (is_listed (Release caller.vmpl page (size_of word)) answer)
       → (pairs : List Asked) (polls : List Bool) → AreListed pairs
       → IsWhole (on_released (over withdraw caller regs first) j now f answer) pairs polls outcome
       → Walked (over withdraw caller regs first) n j left
-          (loaded (over withdraw caller regs first) j word ∷ PoolPop (size_of word) gives Block page now
-          ∷ fills (over withdraw caller regs first) j word page gives Done ∷ Release caller.vmpl page (size_of word) gives answer ∷ pairs) polls outcome
+      (loaded (over withdraw caller regs first) j word ∷ PoolPop (size_of word) gives Block page now
+      ∷ fills (over withdraw caller regs first) j word page gives Done ∷ Release caller.vmpl page (size_of word) gives answer ∷ pairs) polls outcome
   released_sound word size page now Done may pairs polls a h = goes (Some now) pairs polls a h _ (withdrawn word page now size) refl
   released_sound word size page now (Strange owner) may pairs polls a h =
       fails withdraw caller regs first n j left below outcome (Some now) _ _ (strange word page now owner size) refl pairs polls h
@@ -257,8 +256,8 @@ module _ (caller : Caller) (regs : Regs) (first n j : ℕ) (left : Option ℕ) (
       → (pairs : List Asked) (polls : List Bool) → AreListed pairs
       → IsWhole (finish (over withdraw caller regs first) j (left_by answer) (failed invalid_address)) pairs polls outcome
       → Walked (over withdraw caller regs first) n j left
-          (loaded (over withdraw caller regs first) j word ∷ PoolPop (size_of word) gives Block page now
-          ∷ fills (over withdraw caller regs first) j word page gives Refused ∷ PoolPush page (size_of word) gives answer ∷ pairs) polls outcome
+      (loaded (over withdraw caller regs first) j word ∷ PoolPop (size_of word) gives Block page now
+      ∷ fills (over withdraw caller regs first) j word page gives Refused ∷ PoolPush page (size_of word) gives answer ∷ pairs) polls outcome
   back_sound word size page now (Held held) may pairs polls a h =
       fails withdraw caller regs first n j left below outcome (Some held) _ _ (not_filled word page now held size) refl pairs polls h
   back_sound word size page now _ may pairs polls a h = cc
@@ -268,16 +267,16 @@ module _ (caller : Caller) (regs : Regs) (first n j : ℕ) (left : Option ℕ) (
       → (pairs : List Asked) (polls : List Bool) → AreListed pairs
       → IsWhole (on_filled (over withdraw caller regs first) j page (size_of word) now f answer) pairs polls outcome
       → Walked (over withdraw caller regs first) n j left
-          (loaded (over withdraw caller regs first) j word ∷ PoolPop (size_of word) gives Block page now
-          ∷ fills (over withdraw caller regs first) j word page gives answer ∷ pairs) polls outcome
+      (loaded (over withdraw caller regs first) j word ∷ PoolPop (size_of word) gives Block page now
+      ∷ fills (over withdraw caller regs first) j word page gives answer ∷ pairs) polls outcome
   filled_sound word size page now Done may [] polls a h = absurd h
   filled_sound word size page now Done may (asked ∷ pairs) polls a h =
       rw (is_gives asked (Release caller.vmpl page (size_of word)) h.0)
-        (released_sound word size page now asked.answer (may_give asked (Release caller.vmpl page (size_of word)) h.0 a.0) pairs polls a.1 h.1)
+      (released_sound word size page now asked.answer (may_give asked (Release caller.vmpl page (size_of word)) h.0 a.0) pairs polls a.1 h.1)
   filled_sound word size page now Refused may [] polls a h = absurd h
   filled_sound word size page now Refused may (asked ∷ pairs) polls a h =
       rw (is_gives asked (PoolPush page (size_of word)) h.0)
-        (back_sound word size page now asked.answer (may_give asked (PoolPush page (size_of word)) h.0 a.0) pairs polls a.1 h.1)
+      (back_sound word size page now asked.answer (may_give asked (PoolPush page (size_of word)) h.0 a.0) pairs polls a.1 h.1)
   filled_sound word size page now _ may pairs polls a h = cc
 
   popped_sound : (word : ℕ) → is_size word ≡ true → (answer : Answer)
@@ -285,16 +284,16 @@ module _ (caller : Caller) (regs : Regs) (first n j : ℕ) (left : Option ℕ) (
       → (pairs : List Asked) (polls : List Bool) → AreListed pairs
       → IsWhole (on_popped (over withdraw caller regs first) j (size_of word) f answer) pairs polls outcome
       → Walked (over withdraw caller regs first) n j left
-          (loaded (over withdraw caller regs first) j word ∷ PoolPop (size_of word) gives answer ∷ pairs) polls outcome
+      (loaded (over withdraw caller regs first) j word ∷ PoolPop (size_of word) gives answer ∷ pairs) polls outcome
   popped_sound word size (Block page now) may [] polls a h = absurd h
   popped_sound word size (Block page now) may (asked ∷ pairs) polls a h =
       rw (is_gives asked (fills (over withdraw caller regs first) j word page) h.0)
-        (filled_sound word size page now asked.answer (may_give asked (fills (over withdraw caller regs first) j word page) h.0 a.0) pairs polls a.1 h.1)
+      (filled_sound word size page now asked.answer (may_give asked (fills (over withdraw caller regs first) j word page) h.0 a.0) pairs polls a.1 h.1)
   popped_sound word size (Empty now) may pairs polls a h =
       ended (over withdraw caller regs first) n j left (Some now) dry
-        (loaded (over withdraw caller regs first) j word ∷ PoolPop (size_of word) gives Empty now ∷ []) pairs polls outcome
-        (at_dry 0 j word now below refl size) refl
-        (finish_sound (over withdraw caller regs first) j (Some now) dry pairs polls outcome h)
+      (loaded (over withdraw caller regs first) j word ∷ PoolPop (size_of word) gives Empty now ∷ []) pairs polls outcome
+      (at_dry 0 j word now below refl size) refl
+      (finish_sound (over withdraw caller regs first) j (Some now) dry pairs polls outcome h)
   popped_sound word size _ may pairs polls a h = cc
 
   withdraw_part : (word : ℕ) → is_size word ≡ true → (pairs : List Asked) (polls : List Bool) → AreListed pairs
@@ -303,7 +302,7 @@ module _ (caller : Caller) (regs : Regs) (first n j : ℕ) (left : Option ℕ) (
   withdraw_part word size [] polls a h = absurd h
   withdraw_part word size (asked ∷ pairs) polls a h =
       rw (is_gives asked (PoolPop (size_of word)) h.0)
-        (popped_sound word size asked.answer (may_give asked (PoolPop (size_of word)) h.0 a.0) pairs polls a.1 h.1)
+      (popped_sound word size asked.answer (may_give asked (PoolPop (size_of word)) h.0 a.0) pairs polls a.1 h.1)
 
 -- ALL LIST CALLS
 part_sound : (call : ListCall) (caller : Caller) (regs : Regs) (first n j : ℕ) (left : Option ℕ) (outcome : Do) (f : Option ℕ → Dialogue)
@@ -344,10 +343,10 @@ last_goes call caller regs first n j left outcome at left_then pairs polls a h p
 -- an entry before it
 next_goes : (call : ListCall) (caller : Caller) (regs : Regs) (first n more j : ℕ) (left : Option ℕ) (outcome : Do) → j + 1 < n
     → ((left_then : Option ℕ) (pairs : List Asked) (polls : List Bool) → AreListed pairs
-      → IsWhole (entries_from (over call caller regs first) (suc more) (j + 1) left_then) pairs polls outcome
-      → Walked (over call caller regs first) n (j + 1) left_then pairs polls outcome)
+    → IsWhole (entries_from (over call caller regs first) (suc more) (j + 1) left_then) pairs polls outcome
+    → Walked (over call caller regs first) n (j + 1) left_then pairs polls outcome)
     → GoesAs call caller regs first n j left outcome
-        (λ left_then. polled (over call caller regs first) (suc more) (j + 1) left_then (entries_from (over call caller regs first) (suc more) (j + 1) left_then))
+    (λ left_then. polled (over call caller regs first) (suc more) (j + 1) left_then (entries_from (over call caller regs first) (suc more) (j + 1) left_then))
 next_goes call caller regs first n more j left outcome below rest left_then pairs [] a h part is same = absurd h
 next_goes call caller regs first n more j left outcome below rest left_then pairs (true ∷ polls) a h part is same =
     let w : Listed = over call caller regs first in
@@ -366,18 +365,18 @@ walk_sound call caller regs first n more j left outcome at [] polls a h = absurd
 walk_sound call caller regs first n zero j left outcome at (asked ∷ pairs) polls a h =
     let step : Step = loads (over call caller regs first) j in
     rw (is_gives asked step h.0)
-      (entry_sound call caller regs first n j left (omega arith) outcome (λ left_then. finish (over call caller regs first) (j + 1) left_then whole)
-        (last_goes call caller regs first n j left outcome (omega arith))
-        asked.answer (may_give asked step h.0 a.0) pairs polls a.1 h.1)
+    (entry_sound call caller regs first n j left (omega arith) outcome (λ left_then. finish (over call caller regs first) (j + 1) left_then whole)
+    (last_goes call caller regs first n j left outcome (omega arith))
+    asked.answer (may_give asked step h.0 a.0) pairs polls a.1 h.1)
 walk_sound call caller regs first n (suc more) j left outcome at (asked ∷ pairs) polls a h =
     let w : Listed = over call caller regs first in
     let step : Step = loads w j in
     rw (is_gives asked step h.0)
-      (entry_sound call caller regs first n j left (omega arith) outcome
-        (λ left_then. polled w (suc more) (j + 1) left_then (entries_from w (suc more) (j + 1) left_then))
-        (next_goes call caller regs first n more j left outcome (omega arith)
-          (λ left_then pairs polls a h. walk_sound call caller regs first n more (j + 1) left_then outcome (omega arith) pairs polls a h))
-        asked.answer (may_give asked step h.0 a.0) pairs polls a.1 h.1)
+    (entry_sound call caller regs first n j left (omega arith) outcome
+    (λ left_then. polled w (suc more) (j + 1) left_then (entries_from w (suc more) (j + 1) left_then))
+    (next_goes call caller regs first n more j left outcome (omega arith)
+    (λ left_then pairs polls a h. walk_sound call caller regs first n more (j + 1) left_then outcome (omega arith) pairs polls a h))
+    asked.answer (may_give asked step h.0 a.0) pairs polls a.1 h.1)
 
 -- from the header
 walk_of : (call : ListCall) (caller : Caller) (regs : Regs) (header : ℕ) (pairs : List Asked) (polls : List Bool) (outcome : Do)
@@ -404,15 +403,15 @@ below_of list header e = grind (arith, nat_tests)
 module _ (call : ListCall) (caller : Caller) (regs : Regs) (good : address_refusal caller.regions 8 regs.rcx ≡ None) where
   usable_sound : (header : ℕ) (b : Bool) → is_usable regs.rcx header ≡ b → (pairs : List Asked) (polls : List Bool) (outcome : Do) → AreListed pairs
       → IsWhole (if b then entries_from (over call caller regs (next_of header)) (entries_of header - next_of header) (next_of header) None
-          else refuse_list call regs invalid_parameter) pairs polls outcome
+      else refuse_list call regs invalid_parameter) pairs polls outcome
       → IsListCall call caller regs (loads_header caller regs gives Word header ∷ pairs) polls outcome
   usable_sound header false e pairs polls outcome a h = rw (h.0, h.1, h.2) (bad_header header good e)
   usable_sound header true e pairs polls outcome a h =
       let below : next_of header < entries_of header = below_of regs.rcx header e in
       let count : entries_of header - next_of header ≡ suc (entries_of header - (next_of header + 1)) = omega arith in
       walked header pairs polls outcome good e (walk_of call caller regs header pairs polls outcome
-        (walk_sound call caller regs (next_of header) (entries_of header) (entries_of header - (next_of header + 1)) (next_of header) None outcome (omega arith) pairs polls a
-          (subst (λ (m : ℕ). IsWhole (entries_from (over call caller regs (next_of header)) m (next_of header) None) pairs polls outcome) count h)))
+      (walk_sound call caller regs (next_of header) (entries_of header) (entries_of header - (next_of header + 1)) (next_of header) None outcome (omega arith) pairs polls a
+      (subst (λ (m : ℕ). IsWhole (entries_from (over call caller regs (next_of header)) m (next_of header) None) pairs polls outcome) count h)))
 
   header_sound : (answer : Answer) → IsTrue (is_listed (loads_header caller regs) answer) → (pairs : List Asked) (polls : List Bool) (outcome : Do) → AreListed pairs
       → IsWhole (on_header call caller regs answer) pairs polls outcome → IsListCall call caller regs (loads_header caller regs gives answer ∷ pairs) polls outcome
@@ -428,7 +427,7 @@ list_past call caller regs (Some code) e pairs polls outcome a h = rw (h.0, h.1,
 list_past call caller regs None e [] polls outcome a h = absurd h
 list_past call caller regs None e (asked ∷ pairs) polls outcome a h =
     rw (is_gives asked (loads_header caller regs) h.0)
-      (header_sound call caller regs e asked.answer (may_give asked (loads_header caller regs) h.0 a.0) pairs polls outcome a.1 h.1)
+    (header_sound call caller regs e asked.answer (may_give asked (loads_header caller regs) h.0 a.0) pairs polls outcome a.1 h.1)
 
 pub list_sound : (call : ListCall) (caller : Caller) (regs : Regs) (pairs : List Asked) (polls : List Bool) (outcome : Do) → AreListed pairs
     → IsWhole (list_call call caller regs) pairs polls outcome → IsListCall call caller regs pairs polls outcome

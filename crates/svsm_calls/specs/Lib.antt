@@ -13,3 +13,4 @@ pub mod Run
 pub mod Once
 pub mod Admitted
 pub mod Apart
+pub mod Worked

@@ -6,4 +6,7 @@
 
 mod laws;
 
-pub use laws::{asks_its_sequences, asks_prefixes, fixes_the_next_step};
+pub use laws::{
+    asks_its_sequences, asks_prefixes, asks_well_formed_steps, bounds_the_entries,
+    fixes_the_next_step, fixes_what_cores_give, happens_as_given, has_worked_calls,
+};

@@ -3,7 +3,6 @@ use Rattle.std.specs.Prelude.{map}
 use Rattle.std.proofs.lemmas.List.{get_or_default}
 use Rattle.std.proofs.lemmas.List.Edits.{map_over_more}
 use Rattle.svsm_types.specs.declared.vcpu.Row.{Row}
-use Rattle.svsm_types.specs.declared.vcpu.RowState.{RowState}
 use Rattle.machine_core.specs.Moved.{moved}
 use Rattle.machine_core.proofs.rows.move_rows.Goals as goal
 

@@ -11,7 +11,7 @@ returns-clause-performs c =
     let rows : List Row = c.args.self.now.rows.items in
     let same : length c.enter.new.rows ≡ length rows = c.enter.auto.rows ∙ ap length c.deref_mut.ensures.value in
     performs_enter (constants_of c.args.self.now) _ _ c.args.apic c.enter.result rows _
-        (c.enter.ensures.answer c.args.self.now.apics.items ∙ ap (λ (at : List Row). rows_answer c.args.self.now.apics.items at (steps.Enter c.args.apic)) c.deref_mut.ensures.value)
-        (written_all c.args.self.now.rows.len rows c.enter.new.rows (sym c.deref_mut.ensures.len ∙ ap length c.deref_mut.ensures.value) same
-        ∙ (c.enter.ensures.rows c.args.self.now.apics.items ∙ ap (λ (at : List Row). rows_after c.args.self.now.apics.items at (steps.Enter c.args.apic)) c.deref_mut.ensures.value))
-        c.enter.ensures.calm
+    (c.enter.ensures.answer c.args.self.now.apics.items ∙ ap (λ (at : List Row). rows_answer c.args.self.now.apics.items at (steps.Enter c.args.apic)) c.deref_mut.ensures.value)
+    (written_all c.args.self.now.rows.len rows c.enter.new.rows (sym c.deref_mut.ensures.len ∙ ap length c.deref_mut.ensures.value) same
+    ∙ (c.enter.ensures.rows c.args.self.now.apics.items ∙ ap (λ (at : List Row). rows_after c.args.self.now.apics.items at (steps.Enter c.args.apic)) c.deref_mut.ensures.value))
+    c.enter.ensures.calm

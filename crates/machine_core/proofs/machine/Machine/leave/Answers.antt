@@ -11,7 +11,7 @@ returns-clause-performs c =
     let rows : List Row = c.args.self.now.rows.items in
     let same : length c.leave.new.rows ≡ length rows = c.leave.auto.rows ∙ ap length c.deref_mut.ensures.value in
     performs_leave (constants_of c.args.self.now) _ _ c.args.apic c.leave.result rows _
-        (c.leave.ensures.answer c.args.self.now.apics.items ∙ ap (λ (at : List Row). rows_answer c.args.self.now.apics.items at (steps.Leave c.args.apic)) c.deref_mut.ensures.value)
-        (written_all c.args.self.now.rows.len rows c.leave.new.rows (sym c.deref_mut.ensures.len ∙ ap length c.deref_mut.ensures.value) same
-        ∙ (c.leave.ensures.rows c.args.self.now.apics.items ∙ ap (λ (at : List Row). rows_after c.args.self.now.apics.items at (steps.Leave c.args.apic)) c.deref_mut.ensures.value))
-        c.leave.ensures.calm
+    (c.leave.ensures.answer c.args.self.now.apics.items ∙ ap (λ (at : List Row). rows_answer c.args.self.now.apics.items at (steps.Leave c.args.apic)) c.deref_mut.ensures.value)
+    (written_all c.args.self.now.rows.len rows c.leave.new.rows (sym c.deref_mut.ensures.len ∙ ap length c.deref_mut.ensures.value) same
+    ∙ (c.leave.ensures.rows c.args.self.now.apics.items ∙ ap (λ (at : List Row). rows_after c.args.self.now.apics.items at (steps.Leave c.args.apic)) c.deref_mut.ensures.value))
+    c.leave.ensures.calm
