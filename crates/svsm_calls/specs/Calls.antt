@@ -185,7 +185,7 @@ remap_call caller regs =
     past (address_refusal caller.regions 8 regs.rcx) (replies regs)
     (ask (ClearCaa caller.vmpl (record { 0 = regs.rcx })) (on_cleared caller regs))
 
--- CREATE_VCPU: RCX is the VMSA, RDX the calling area, and R8 bits 31:0 the APIC id
+-- CREATE_VCPU: RCX is the VMSA, RDX the calling area, and bits 31:0 of r8 the APIC id
 abbrev pub vmsa_page : Regs → Page
 vmsa_page regs = record { 0 = regs.rcx / 2 ^ 12 }
 

@@ -1,6 +1,6 @@
 //! The atomic steps of the machine, their answers, and the entries of a history.
 //!
-//! What each step does stands in `specs/`: `Checks` and `Plan` are the step table, `Region` and `Tables` the answers,
+//! What each step does stands in `specs/`: `Checks` and `Plan` are the step table, `Region`, `Pool` and `Registry` the answers,
 //! `Machine` the step relation, `Safe` what no run may break.
 #![tactic(auto)]
 

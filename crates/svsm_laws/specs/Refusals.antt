@@ -1,0 +1,74 @@
+-- A step that is refused changes nothing, and 4K entries never join.
+use Rattle.std.specs.Prelude.{◌≡◌, ℕ, ◌<◌, Bool, true, false, IsTrue, List, slice_index_or}
+use Rattle.svsm_types.specs.declared.image.Image.{Image}
+use Rattle.svsm_types.specs.Pages.{region_of}
+use Rattle.svsm_types.specs.Hardware.{blank}
+use Rattle.svsm_steps.specs.declared.answer.Answer.{Answer}
+use Rattle.svsm_steps.specs.declared.answer.Answer.TheVariants.{Done, Word, Denied, Refused, Unchanged, Hw, BadVmsa, Strange, Held, Block, Empty, Seen, Taken, Unknown, Running, Fault}
+use Rattle.svsm_steps.specs.declared.entry.Entry.{Entry}
+use Rattle.svsm_steps.specs.State.{State, Constants, RegionState, AreSized}
+use Rattle.svsm_steps.specs.Image.{range_of, page_in, is_held_large, booted}
+use Rattle.svsm_steps.specs.Machine.{Leads, state_after}
+
+-- the answers of a step that did not do what it was asked for
+abbrev pub is_refusal : Answer → Bool
+is_refusal Denied = true
+is_refusal Refused = true
+is_refusal Unchanged = true
+is_refusal (Hw code) = true
+is_refusal (Strange owner) = true
+is_refusal (Empty left) = true
+is_refusal Taken = true
+is_refusal Unknown = true
+is_refusal Running = true
+is_refusal Done = false
+is_refusal (Word word) = false
+is_refusal BadVmsa = false
+is_refusal (Held count) = false
+is_refusal (Block page left) = false
+is_refusal (Seen page caa) = false
+is_refusal (Fault done) = false
+
+-- a region that is the same, but that its 2M entry may be split
+pub record IsSameRegion (old new : RegionState) : Type 0 where
+  pub pages : new.hw.pages ≡ old.hw.pages
+  pub words : new.hw.words ≡ old.hw.words
+  pub owner : new.owner ≡ old.owner
+  pub recorded : new.recorded ≡ old.recorded
+  pub unjoined : old.hw.large ≡ false → new.hw.large ≡ false
+
+pub record IsSameState (old new : State) : Type 0 where
+  pub regions : (number : ℕ) → IsSameRegion (old.regions number) (new.regions number)
+  pub pool : new.pool ≡ old.pool
+  pub rows : new.rows ≡ old.rows
+
+-- An entry with such an answer leaves the state as it was, but that a pvalidate in 4K may have split its 2M entry.
+abbrev pub RefusalsChangeNothing : Type 0
+RefusalsChangeNothing =
+    (constants : Constants) (old : State) (entry : Entry) (new : State) → AreSized old → Leads constants old entry new
+    → IsTrue (is_refusal entry.answer) → IsSameState old new
+
+-- the 512 pages of a region that is held as one 2M entry have one state
+abbrev pub IsCommon : RegionState → Type 0
+IsCommon r =
+    r.hw.large ≡ true → (index other : ℕ) → index < 512 → other < 512
+    → slice_index_or r.hw.pages index blank ≡ slice_index_or r.hw.pages other blank
+
+abbrev pub AreCommon : State → Type 0
+AreCommon state = (number : ℕ) → IsCommon (state.regions number)
+
+-- The pages of each 2M entry keep one common state.
+abbrev pub StaysCommon : Type 0
+StaysCommon =
+    (constants : Constants) (state : State) (entries : List Entry) → AreSized state → AreCommon state
+    → AreCommon (state_after constants state entries)
+
+-- the pages of each region that an image holds as one 2M entry have one state
+abbrev pub HasCommonLarge : Image → Type 0
+HasCommonLarge image =
+    (page other : ℕ) → IsTrue (is_held_large image (region_of page)) → region_of page ≡ region_of other
+    → page_in (range_of image page) ≡ page_in (range_of image other)
+
+-- They have one state in the booted state too.
+abbrev pub BootedIsCommon : Type 0
+BootedIsCommon = (image : Image) → HasCommonLarge image → AreCommon (booted image)
