@@ -8,6 +8,7 @@ pub mod Formed
 pub mod Events
 pub mod CoreRun
 pub mod Progress
+pub mod Tickets
 pub mod World
 pub mod Waves
 pub mod Run

@@ -13,6 +13,7 @@ ghost use Rattle.svsm_steps.specs.declared.outcome.CoreRun.{CoreRun};
 ghost use Rattle.svsm_steps.specs.declared.entry.Entry.{Entry};
 ghost use Rattle.svsm_calls.specs.Events.{Made, Event, Happen};
 ghost use Rattle.svsm_calls.specs.CoreRun.{IsPiece, IsCutOff, IsCoreRun};
+ghost use Rattle.svsm_calls.specs.Tickets.{RunsWithOtherTickets};
 ghost use Rattle.svsm_calls.specs.World.{Scripted, fresh_world, AreGiven, Gives};
 ghost use Rattle.svsm_calls.specs.Run.{IsStarted, IsRun};
 ghost use Rattle.svsm_calls.specs.Dialogue.{Dialogue, Asked, AreListed, LeadsTo, IsWhole};
@@ -123,4 +124,9 @@ pub fn has_worked_runs()
     ensures to_its_end { IsRun small_image one_query query_entries query_cores }
     ensures refused { IsRun refusing_image one_query refused_entries refused_cores }
     ensures faulted { IsRun faulting_image one_query faulted_entries faulted_cores }
+{}
+
+/// A core's run with other tickets is the same core's run, but for the ticket of a fault.
+pub fn runs_with_other_tickets()
+    ensures { RunsWithOtherTickets }
 {}
