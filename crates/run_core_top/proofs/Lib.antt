@@ -1,0 +1,11 @@
+pub mod AppendsLemmas
+pub mod PageLemmas
+pub mod ScriptLemmas
+pub mod CauseLemmas
+pub mod RecordedLemmas
+pub mod AnswerLemmas
+pub mod ServedLemmas
+pub mod CoreLemmas
+pub mod RunLemmas
+pub mod PlainLemmas
+pub mod TopLemmas

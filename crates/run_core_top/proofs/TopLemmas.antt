@@ -1,0 +1,54 @@
+-- What was carried out, and why it was not.
+use Rattle.std.proofs.Common.{◌≡◌, ℕ, Bool, true, false, List, [], ◌∷◌, refl, sym, subst, inl, inr, ⊎_elim}
+use Rattle.std.specs.Prelude.{◌⊎◌, Option, Some, None, if◌then◌else◌}
+use Rattle.svsm_types.specs.declared.request.Request.{Request}
+use Rattle.svsm_steps.specs.declared.entry.Entry.{Entry}
+use Rattle.run_core_top.specs.declared.stop.Stop.{Stop}
+use Rattle.run_core_top.specs.declared.stop.Stop.TheVariants as stops
+use Rattle.run_core_top.specs.Image.{base_image}
+use Rattle.run_core_top.specs.Words.{Command, command_of}
+use Rattle.run_core_top.specs.Causes.{Agrees, IsScript, FilesCause}
+use Rattle.run_core_top.specs.Stops.{status_of, stop_line}
+use Rattle.run_core_top.specs.Headline.{IsReported, IsCarriedOut, StopsFor, StopsWith}
+
+pub carried : (told : List ℕ → Option (List ℕ)) (words : List (List ℕ)) (image script : List ℕ) (trace : List Entry) (text : List ℕ) (faulted : Bool)
+    → Some (record { image = image; scripts = script ∷ [] }) ≡ command_of words → Agrees (told image) base_image
+    → ((requests : List Request) × IsScript (told script) requests × IsReported requests trace text faulted)
+    → IsCarriedOut told words trace text faulted
+carried told words image script trace text faulted command agrees made = record {
+  image = image;
+  script = script;
+  requests = made.0;
+  is_command = sym command;
+  is_image = agrees;
+  is_script = made.1;
+  report = made.2;
+}
+
+pub stops_for : (told : List ℕ → Option (List ℕ)) (words : List (List ℕ)) (image script : List ℕ) (from to : ℕ) (failed : Option (List ℕ)) (stop : Stop)
+    → Some (record { image = image; scripts = script ∷ [] }) ≡ command_of words → FilesCause told image script from to failed stop
+    → StopsFor told words from to failed stop
+stops_for told words image script from to failed stops.Words command cause = absurd (⊎_elim (λ e. e) (λ e. e.1) cause)
+stops_for told words image script from to failed stops.Memory command cause = (image, script, sym command, cause)
+stops_for told words image script from to failed stops.Image command cause = (image, script, sym command, cause)
+stops_for told words image script from to failed (stops.Script core) command cause = (image, script, sym command, cause)
+stops_for told words image script from to failed (stops.Read file) command cause = (image, script, sym command, cause)
+stops_for told words image script from to failed stops.Write command cause = (image, script, sym command, cause)
+
+-- the stop that was told, which is the one met or want of memory
+pub stops_with : (told : List ℕ → Option (List ℕ)) (words : List (List ℕ)) (image script : List ℕ) (from to : ℕ) (failed : Option (List ℕ)) (met : Stop) (status : ℕ)
+    (IsTold : List ℕ → Type 0)
+    → Some (record { image = image; scripts = script ∷ [] }) ≡ command_of words → FilesCause told image script from to failed met
+    → ((stop : Stop) × ((stop ≡ met) ⊎ (stop ≡ stops.Memory)) × (status ≡ status_of stop) × IsTold (stop_line stop))
+    → StopsWith told words from to failed status IsTold
+stops_with told words image script from to failed met status IsTold command cause made = record {
+  stop = made.0;
+  is_status = made.2;
+  cause = ⊎_elim
+      (λ (same : made.0 ≡ met). subst (λ (stop : Stop). StopsFor told words from to failed stop) (sym same)
+      (stops_for told words image script from to failed met command cause))
+      (λ (memory : made.0 ≡ stops.Memory). subst (λ (stop : Stop). StopsFor told words from to failed stop) (sym memory)
+      (stops_for told words image script from to failed stops.Memory command (inl tt)))
+      made.1;
+  line = made.3;
+}

@@ -1,0 +1,71 @@
+//! The files of the system.
+ghost use Rattle.std.specs.Prelude.{◌≡◌, ◌≤◌, None, length, option_map, string_bytes, IfOk};
+
+use crate::{LoadError, Shelf};
+use std::alloc::Global;
+use std::fs;
+use std::io::Read;
+use std::rt::Files;
+
+/// The files of the system, by their paths. It tells no bytes.
+#[derive(Drop)]
+pub struct FileShelf<'a, R: Files> {
+    rt: &'a R,
+    faults: u64,
+    failed: Option<String>,
+}
+
+impl<'a, R: Files> FileShelf<'a, R> {
+    /// The files, of which none was loaded yet.
+    pub fn new(rt: &'a R) -> FileShelf<'a, R>
+        ensures faults { result.faults ≡ 0 }
+        ensures failed { result.failed ≡ None }
+    {
+        FileShelf {
+            rt,
+            faults: 0,
+            failed: None,
+        }
+    }
+}
+
+// The bytes of a file, where they are at most so many.
+fn read_file<R: Files>(rt: &R, alloc: Global, name: &str, limit: u64) -> Result<Vec<u8>, LoadError>
+    ensures { IfOk result (λ v. length v.items ≤ limit) }
+{
+    let Ok(mut file) = fs::open(rt, name) else {
+        return Err(LoadError::Failed);
+    };
+    let mut bytes = Vec::new(alloc);
+    let mut part = [0u8; 4096];
+    'reads: loop {
+        let Ok(count) = file.read(&mut part) else {
+            return Err(LoadError::Failed);
+        };
+        if count == 0 {
+            return Ok(bytes);
+        }
+        if count as u64 > limit - bytes.len() as u64 {
+            return Err(LoadError::TooLong);
+        }
+        bytes.extend_from_slice(&part[..count])?;
+    }
+}
+
+impl<R: Files> Shelf for FileShelf<'_, R> {
+    ghost told = { λ _ _. None };
+
+    ghost faults = { λ s. s.faults };
+
+    ghost failed = { λ s. option_map string_bytes s.failed };
+
+    fn load(&mut self, alloc: Global, name: &str, limit: u64) -> Result<Vec<u8>, LoadError> {
+        let kept = String::from_str(alloc, name)?;
+        let loaded = read_file(self.rt, alloc, name, limit);
+        if let Err(LoadError::Failed) = loaded {
+            self.faults = self.faults.saturating_add(1);
+            self.failed = Some(kept);
+        }
+        loaded
+    }
+}

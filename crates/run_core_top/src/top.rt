@@ -1,0 +1,104 @@
+//! The top call.
+ghost use Rattle.std.specs.Prelude.{◌≡◌, ◌≢◌, ◌↔◌, ◌⊎◌, [], ◌∷◌, List, ℕ, None, Some, Option, map, string_bytes, IfOk, IfErr};
+ghost use Rattle.run_core_top.specs.Outside.{Rose, Tells};
+ghost use Rattle.run_core_top.specs.Words.{command_of};
+ghost use Rattle.run_core_top.specs.declared.stop.Stop.{Stop};
+ghost use Rattle.run_core_top.specs.declared.stop.Stop.TheVariants as stops;
+ghost use Rattle.run_core_top.specs.Image.{base_image};
+ghost use Rattle.run_core_top.specs.Causes.{Agrees, IsScript, FilesCause};
+ghost use Rattle.run_core_top.specs.Stops.{status_of, stop_line};
+ghost use Rattle.run_core_top.specs.Headline.{IsReported, Headline, IsCutOff, StopsWith};
+
+use crate::base_run::{Report, run_base};
+use crate::load::load_files;
+use crate::stop::{Stop, put_line, status_of, tell_stop};
+use crate::words::command_of;
+use crate::write::append_all;
+use crate::{Shelf, Sink};
+use std::alloc::Global;
+use std::sync::Wait;
+use std::thread::Threads;
+use svsm_steps::{Entry, Gate};
+use svsm_types::Faulted;
+
+/// How the program ended, and the history of its run.
+#[derive(Drop)]
+pub struct Ran {
+    pub status: u8,
+    pub trace: Vec<Entry>,
+}
+
+// Loads the files and carries out the script.
+fn carry_out<S: Shelf, G: Gate>(
+    alloc: Global,
+    shelf: &mut S,
+    image: &str,
+    script: &str,
+    gate: &G,
+) -> Result<Report, Stop>
+    ensures image { IfOk result (λ r. Agrees (S.told shelf.old image.now) base_image) }
+    ensures report { IfOk result (λ r. (requests : _) × IsScript (S.told shelf.old script.now) requests × IsReported requests r.trace.items r.text.items r.faulted) }
+    ensures stop { IfErr result (λ stop. FilesCause (S.told shelf.old) image.now script.now (S.faults shelf.old) (S.faults shelf.new) (S.failed shelf.new) stop) }
+{
+    let requests = load_files(alloc, shelf, image, script)?;
+    Ok(run_base(alloc, gate, &requests)?)
+}
+
+// Tells why nothing was written.
+fn stopped<E: Sink>(alloc: Global, err: &mut E, stop: Stop) -> Ran
+    ensures stop { (told : Stop) × ((told ≡ stop) ⊎ (told ≡ stops.Memory)) × (result.status ≡ status_of told)
+        × Tells (E.written err.old) (E.written err.new) (E.faults err.old) (E.faults err.new) (stop_line told) }
+    ensures trace { result.trace.items ≡ [] }
+{
+    let told = tell_stop(alloc, err, stop);
+    Ran {
+        status: status_of(told),
+        trace: Vec::new(alloc),
+    }
+}
+
+/// Does all that the program does, and tells how it ended.
+pub fn svsm_top<R: Threads + Wait + Sync, S: Shelf, W: Sink, E: Sink, G: Gate + Sync>(
+    rt: &R,
+    alloc: Global,
+    words: &[String],
+    shelf: &mut S,
+    out: &mut W,
+    err: &mut E,
+    gate: &G,
+) -> Ran
+    ensures done { (result.status ≡ 0) ⊎ (result.status ≡ 1) → Headline (S.told shelf.old) (map string_bytes words.now) (W.written out.old) (W.written out.new) result.status result.trace.items }
+    ensures words { (result.status ≡ 2) ↔ (command_of (map string_bytes words.now) ≡ None) }
+    ensures cut_off { result.status ≡ 6 → IsCutOff (S.told shelf.old) (map string_bytes words.now) (W.written out.old) (W.written out.new) result.trace.items }
+    ensures write { result.status ≡ 6 → Rose (W.faults out.old) (W.faults out.new) }
+    ensures stop { (result.status ≡ 0) ⊎ (result.status ≡ 1) ⊎ (result.status ≡ 6) ⊎ StopsWith (S.told shelf.old) (map string_bytes words.now) (S.faults shelf.old) (S.faults shelf.new) (S.failed shelf.new) result.status
+        (Tells (E.written err.old) (E.written err.new) (E.faults err.old) (E.faults err.new)) }
+    ensures kept { (result.status ≡ 0) ⊎ (result.status ≡ 1) ⊎ (result.status ≡ 6) ⊎ ((W.written out.new ≡ W.written out.old) × (result.trace.items ≡ [])) }
+    ensures silent { (result.status ≡ 0) ⊎ (result.status ≡ 1) → E.written err.new ≡ E.written err.old }
+    ensures write_line { result.status ≡ 6 → Tells (E.written err.old) (E.written err.new) (E.faults err.old) (E.faults err.new) (stop_line stops.Write) }
+{
+    let _ = rt;
+    let Some(command) = command_of(words) else {
+        put_line(err, b"svsm_run: words\n");
+        return Ran {
+            status: 2,
+            trace: Vec::new(alloc),
+        };
+    };
+    match carry_out(alloc, shelf, command.image, command.script, gate) {
+        Err(stop) => stopped(alloc, err, stop),
+        Ok(report) => match append_all(out, &report.text) {
+            Ok(()) => Ran {
+                status: if report.faulted { 1 } else { 0 },
+                trace: report.trace,
+            },
+            Err(Faulted) => {
+                put_line(err, b"svsm_run: write\n");
+                Ran {
+                    status: 6,
+                    trace: report.trace,
+                }
+            }
+        },
+    }
+}
