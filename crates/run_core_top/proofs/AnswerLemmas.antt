@@ -1,17 +1,16 @@
 -- The answers of the steps of a call.
 use Rattle.std.proofs.Common.{◌≡◌, ℕ, zero, suc, Bool, true, false, List, [], ◌∷◌, refl, sym, subst}
-use Rattle.std.specs.Prelude.{IsTrue, Option, None, Some, MatchOption, ◌||◌, not, unwrap_or, if◌then◌else◌}
+use Rattle.std.specs.Prelude.{IsTrue, Option, None, Some, MatchOption, unwrap_or}
 use Rattle.svsm_types.specs.declared.address.Gpa.{Gpa}
 use Rattle.svsm_types.specs.declared.platform.Vmpl.{Vmpl}
 use Rattle.svsm_types.specs.declared.vcpu.Row.{Row}
-use Rattle.svsm_steps.specs.declared.step.Step.{Step}
 use Rattle.svsm_steps.specs.declared.step.Step.TheVariants.{GuestPend, TakePending, Leave}
 use Rattle.svsm_steps.specs.declared.answer.Answer.{Answer}
 use Rattle.svsm_steps.specs.declared.answer.Answer.TheVariants.{Done, Word, Denied, Refused, Unchanged, Hw, BadVmsa, Strange, Held, Block, Empty, Seen, Taken, Unknown, Running, Fault}
 use Rattle.svsm_steps.specs.State.{RegionState}
 use Rattle.svsm_steps.specs.Checks.{first_failing}
 use Rattle.svsm_steps.specs.Region.{AnswersPlan, MayAnswer, fault_at}
-use Rattle.svsm_steps.specs.Registry.{rows_answer, of_apic_in}
+use Rattle.svsm_steps.specs.Registry.{rows_answer}
 use Rattle.svsm_steps.specs.Formed.{is_listed, IsAnswer}
 
 pend_planned : (r : RegionState) (vmpl : Vmpl) (gpa : Gpa) (answer : Answer) (due : Option ℕ) → AnswersPlan r (GuestPend vmpl gpa) answer due

@@ -1,7 +1,7 @@
 -- One more call of a core.
-use Rattle.std.proofs.Common.{◌≡◌, ℕ, suc, ◌+◌, ◌<◌, Bool, true, false, List, [], ◌∷◌, ◌++◌, length, take, drop, get_or, refl, sym, ◌∙◌, ap, subst, arith, append_assoc, take-append-drop, drop-cons}
-use Rattle.std.specs.Prelude.{map, ◌&&◌, ◌==◌, IsTrue}
-use Rattle.std.specs.List.{list_all, All}
+use Rattle.std.proofs.Common.{◌≡◌, ℕ, suc, ◌+◌, ◌<◌, Bool, true, List, [], ◌∷◌, ◌++◌, length, take, drop, get_or, refl, sym, ◌∙◌, ap, subst, arith, append_assoc, take-append-drop, drop-cons}
+use Rattle.std.specs.Prelude.{map, ◌&&◌, IsTrue}
+use Rattle.std.specs.List.{list_all}
 use Rattle.std.proofs.lemmas.List.{append-nil, map-append, take_more}
 use Rattle.std.proofs.lemmas.List.Folds.{list_all-append}
 use Rattle.svsm_types.specs.declared.call.Regs.{Regs}
@@ -14,7 +14,6 @@ use Rattle.svsm_steps.specs.declared.answer.Answer.TheVariants.{Fault}
 use Rattle.svsm_steps.specs.declared.call.Caller.{Caller}
 use Rattle.svsm_steps.specs.declared.entry.Entry.{Entry}
 use Rattle.svsm_steps.specs.declared.outcome.Outcome.{Outcome}
-use Rattle.svsm_steps.specs.declared.outcome.CoreEnd.{CoreEnd}
 use Rattle.svsm_steps.specs.declared.outcome.CoreEnd.TheVariants as ends
 use Rattle.svsm_steps.specs.Formed.{is_listed}
 use Rattle.svsm_calls.specs.Calls.{exit_call}

@@ -3,9 +3,11 @@ pub mod PageLemmas
 pub mod ScriptLemmas
 pub mod CauseLemmas
 pub mod RecordedLemmas
+pub mod NeverFaults
 pub mod AnswerLemmas
 pub mod ServedLemmas
 pub mod CoreLemmas
 pub mod RunLemmas
+pub mod EndLemmas
 pub mod PlainLemmas
 pub mod TopLemmas

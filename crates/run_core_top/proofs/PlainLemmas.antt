@@ -1,5 +1,5 @@
 -- The requests of a script of the form are plain calls, and the image that is read is plain.
-use Rattle.std.proofs.Common.{◌≡◌, ℕ, zero, suc, ◌+◌, ◌<◌, Bool, true, false, List, [], ◌∷◌, length, refl, sym, ◌∙◌, ap, subst, arith}
+use Rattle.std.proofs.Common.{◌≡◌, ℕ, zero, suc, ◌<◌, Bool, true, false, List, [], ◌∷◌, refl, ◌∙◌, ap, subst, arith}
 use Rattle.std.specs.Prelude.{Option, Some, None, IfSome, ◌&&◌, not, nat_lt, if◌then◌else◌, filter, find, map}
 use Rattle.std.specs.List.{All, list_all, flat_map, range_with_len}
 use Rattle.svsm_types.specs.declared.call.Regs.{Regs}

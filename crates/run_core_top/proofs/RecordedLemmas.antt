@@ -1,9 +1,8 @@
 -- One more entry of a history.
-use Rattle.std.proofs.Common.{◌≡◌, ℕ, ◌+◌, Bool, true, false, List, [], ◌∷◌, ◌++◌, length, refl, sym, ◌∙◌, ap, subst, arith}
+use Rattle.std.proofs.Common.{◌≡◌, ℕ, Bool, true, false, List, [], ◌∷◌, ◌++◌, refl, sym, ◌∙◌, subst, arith}
 use Rattle.std.specs.Prelude.{if◌then◌else◌, Option, None, Some, ◌==◌}
 use Rattle.svsm_types.specs.Numbers.{Numbers, counted}
 use Rattle.svsm_types.specs.declared.image.Image.{Image}
-use Rattle.svsm_types.specs.declared.image.FaultAt.{FaultAt}
 use Rattle.svsm_steps.specs.declared.entry.Entry.{Entry}
 use Rattle.svsm_steps.specs.declared.step.Step.{Step}
 use Rattle.svsm_steps.specs.declared.answer.Answer.{Answer}
@@ -19,9 +18,10 @@ use Rattle.svsm_steps.specs.Image.{constants_of, booted, booted_numbers}
 use Rattle.svsm_laws.specs.Runs.{numbers_after_all}
 use Rattle.svsm_laws.proofs.Runs.{state_after-snoc, run-snoc, follows-snoc, well_formed-snoc}
 use Rattle.machine_core.specs.declared.machine.Machine.{Machine}
+use Rattle.machine_core.specs.Built.{IsBuilt}
 use Rattle.machine_core.specs.Performed.{Performs}
 use Rattle.machine_core.specs.Views as machine
-use Rattle.run_core_top.specs.Recorded.{IsRecorded, entry_of}
+use Rattle.run_core_top.specs.Recorded.{AreBuilt, IsRecorded, entry_of}
 
 -- no operation number is listed, whatever is made
 
@@ -43,7 +43,7 @@ one_quiet : (b : Bool) (new old : Numbers) → new.faulting ≡ [] → old.fault
 one_quiet true new old a b = a
 one_quiet false new old a b = b
 
-after_quiet : (kd : Kind) (constants : Constants) (numbers : ℕ → Numbers) (state : State) (step : Step) (answer : Answer)
+pub after_quiet : (kd : Kind) (constants : Constants) (numbers : ℕ → Numbers) (state : State) (step : Step) (answer : Answer)
     → ((number : ℕ) → (numbers number).faulting ≡ [])
     → (number : ℕ) → (numbers_after kd constants numbers state step answer number).faulting ≡ []
 after_quiet region constants numbers state step answer quiet number =
@@ -61,16 +61,21 @@ all_quiet constants (entry ∷ entries) numbers state quiet =
     all_quiet constants entries (numbers_after (kind entry.step) constants numbers state entry.step entry.answer) (next constants state entry)
     (after_quiet (kind entry.step) constants numbers state entry.step entry.answer quiet)
 
-booted_quiet : (image : Image) → image.faults ≡ [] → (number : ℕ) → (booted_numbers image number).faulting ≡ []
+pub booted_quiet : (image : Image) → image.faults ≡ [] → (number : ℕ) → (booted_numbers image number).faulting ≡ []
 booted_quiet image none number = rw none refl
+
+-- one more step that the machine performs
+built-snoc : (entries : List Entry) (entry : Entry) → AreBuilt entries → IsBuilt entry.step → AreBuilt (entries ++ entry ∷ [])
+built-snoc [] entry built step = (step, tt)
+built-snoc (first ∷ entries) entry built step = (built.0, built-snoc entries entry built.1 step)
 
 -- what was made is the next entry
 pub one_more_entry : (image : Image) (old new : Machine) (trace : List Entry) (core : ℕ) (step : Step) (answer : Answer)
-    → image.faults ≡ [] → IsWellFormed image.regions step → IsRecorded image old trace
+    → image.faults ≡ [] → IsBuilt step → IsWellFormed image.regions step → IsRecorded image old trace
     → machine.constants_of new ≡ machine.constants_of old
     → Performs (machine.constants_of old) (machine.state_of old) step answer (machine.state_of new)
     → IsRecorded image new (trace ++ entry_of image.regions trace core step answer ∷ [])
-one_more_entry image old new trace core step answer none formed recorded same performs =
+one_more_entry image old new trace core step answer none built formed recorded same performs =
     let constants : Constants = constants_of image in
     let state : State = state_after constants (booted image) trace in
     let entry : Entry = entry_of image.regions trace core step answer in
@@ -85,4 +90,5 @@ one_more_entry image old new trace core step answer none formed recorded same pe
           (here.due (numbers_after_all constants (booted_numbers image) (booted image) trace)
           (all_quiet constants trace (booted_numbers image) (booted image) (booted_quiet image none)));
       formed = well_formed-snoc image.regions trace entry recorded.formed formed;
+      built = built-snoc trace entry recorded.built built;
     }

@@ -1,11 +1,10 @@
 -- Core 0's run is a run of the machine.
-use Rattle.std.proofs.Common.{◌≡◌, ◌≢◌, ℕ, ◌+◌, Bool, true, false, List, [], ◌∷◌, ◌++◌, refl, sym, ◌∙◌, ap, subst, arith}
-use Rattle.std.specs.Prelude.{map, filter, ◌&&◌, ◌==◌, ◌||◌, if◌then◌else◌, IsTrue}
+use Rattle.std.proofs.Common.{◌≡◌, ℕ, ◌+◌, Bool, true, false, List, [], ◌∷◌, ◌++◌, refl, sym, ◌∙◌, ap, subst, arith}
+use Rattle.std.specs.Prelude.{map, ◌&&◌, ◌==◌, if◌then◌else◌, IsTrue}
 use Rattle.std.specs.List.{list_all, range_with_len}
 use Rattle.std.proofs.lemmas.List.FromFn.{map-range_with_len_more}
 use Rattle.svsm_types.specs.declared.owner.RmpRow.{RmpRow}
 use Rattle.svsm_types.specs.declared.request.Request.{Request}
-use Rattle.svsm_types.specs.declared.vcpu.Row.{Row}
 use Rattle.svsm_types.specs.declared.vcpu.RowState.{RowState}
 use Rattle.svsm_types.specs.declared.vcpu.RowState.TheVariants.{Ready, Reserved, Entered, Left}
 use Rattle.svsm_steps.specs.declared.entry.Entry.{Entry}
@@ -19,9 +18,9 @@ use Rattle.svsm_steps.specs.Image.{constants_of, booted}
 use Rattle.svsm_steps.specs.Safe.{AlwaysSafe}
 use Rattle.svsm_laws.proofs.Booted.{booted_is_shut}
 use Rattle.svsm_laws.proofs.Ownership.{keeps_ownership}
-use Rattle.svsm_calls.specs.Events.{Made, made_of}
+use Rattle.svsm_calls.specs.Events.{made_of}
 use Rattle.svsm_calls.specs.World.{fresh_world}
-use Rattle.svsm_calls.specs.Waves.{is_among, ready_cores, next_wave, IsWave, AreWaves, none, one_more}
+use Rattle.svsm_calls.specs.Waves.{is_among, ready_cores, AreWaves, none, one_more}
 use Rattle.svsm_calls.specs.Run.{IsRun}
 use Rattle.machine_core.specs.declared.machine.Machine.{Machine}
 use Rattle.machine_core.specs.Views as machine

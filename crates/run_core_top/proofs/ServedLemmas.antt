@@ -1,5 +1,5 @@
 -- What follows what was taken from a calling area.
-use Rattle.std.proofs.Common.{◌≡◌, ℕ, ◌%◌, Bool, true, false, List, [], ◌∷◌, refl}
+use Rattle.std.proofs.Common.{◌≡◌, ℕ, true, false, [], refl}
 use Rattle.svsm_types.specs.declared.call.Regs.{Regs}
 use Rattle.svsm_steps.specs.declared.answer.Answer.{Answer}
 use Rattle.svsm_steps.specs.declared.answer.Answer.TheVariants.{Done, Word, Denied, Refused, Unchanged, Hw, BadVmsa, Strange, Held, Block, Empty, Seen, Taken, Unknown, Running, Fault}

@@ -1,21 +1,21 @@
 -- What was carried out, and why it was not.
-use Rattle.std.proofs.Common.{◌≡◌, ℕ, Bool, true, false, List, [], ◌∷◌, refl, sym, subst, inl, inr, ⊎_elim}
-use Rattle.std.specs.Prelude.{◌⊎◌, Option, Some, None, if◌then◌else◌}
+use Rattle.std.proofs.Common.{◌≡◌, ℕ, List, [], ◌∷◌, sym, subst, inl, ⊎_elim}
+use Rattle.std.specs.Prelude.{◌⊎◌, Option, Some}
 use Rattle.svsm_types.specs.declared.request.Request.{Request}
 use Rattle.svsm_steps.specs.declared.entry.Entry.{Entry}
 use Rattle.run_core_top.specs.declared.stop.Stop.{Stop}
 use Rattle.run_core_top.specs.declared.stop.Stop.TheVariants as stops
 use Rattle.run_core_top.specs.Image.{base_image}
-use Rattle.run_core_top.specs.Words.{Command, command_of}
+use Rattle.run_core_top.specs.Words.{command_of}
 use Rattle.run_core_top.specs.Causes.{Agrees, IsScript, FilesCause}
 use Rattle.run_core_top.specs.Stops.{status_of, stop_line}
 use Rattle.run_core_top.specs.Headline.{IsReported, IsCarriedOut, StopsFor, StopsWith}
 
-pub carried : (told : List ℕ → Option (List ℕ)) (words : List (List ℕ)) (image script : List ℕ) (trace : List Entry) (text : List ℕ) (faulted : Bool)
+pub carried : (told : List ℕ → Option (List ℕ)) (words : List (List ℕ)) (image script : List ℕ) (trace : List Entry) (text : List ℕ)
     → Some (record { image = image; scripts = script ∷ [] }) ≡ command_of words → Agrees (told image) base_image
-    → ((requests : List Request) × IsScript (told script) requests × IsReported requests trace text faulted)
-    → IsCarriedOut told words trace text faulted
-carried told words image script trace text faulted command agrees made = record {
+    → ((requests : List Request) × IsScript (told script) requests × IsReported requests trace text)
+    → IsCarriedOut told words trace text
+carried told words image script trace text command agrees made = record {
   image = image;
   script = script;
   requests = made.0;

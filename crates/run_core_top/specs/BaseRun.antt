@@ -1,5 +1,5 @@
 -- The run of core 0 in the machine of the image that is read.
-use Rattle.std.specs.Prelude.{◌≡◌, ℕ, List, [], ◌∷◌}
+use Rattle.std.specs.Prelude.{◌≡◌, List, [], ◌∷◌}
 use Rattle.svsm_types.specs.declared.request.Request.{Request}
 use Rattle.svsm_steps.specs.declared.step.Step.TheVariants.{Enter}
 use Rattle.svsm_steps.specs.declared.answer.Answer.TheVariants.{Seen}
@@ -7,9 +7,8 @@ use Rattle.svsm_steps.specs.declared.entry.Entry.{Entry}
 use Rattle.svsm_steps.specs.declared.outcome.CoreRun.{CoreRun}
 use Rattle.svsm_calls.specs.Run.{caller_of}
 use Rattle.run_core_top.specs.Recorded.{entry_of}
-use Rattle.run_core_top.specs.Base.{base, seat}
+use Rattle.run_core_top.specs.Base.{base}
 use Rattle.run_core_top.specs.Carried.{HasRun}
-use Rattle.svsm_types.specs.declared.address.Page.{Page}
 use Rattle.svsm_types.specs.declared.address.Gpa.{Gpa}
 
 -- the calling area of core 0

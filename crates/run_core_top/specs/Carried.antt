@@ -1,5 +1,5 @@
 -- What a core added to the history with a part of its script.
-use Rattle.std.specs.Prelude.{◌≡◌, ℕ, ◌<◌, true, Bool, List, [], ◌∷◌, ◌++◌, map}
+use Rattle.std.specs.Prelude.{◌≡◌, ℕ, ◌<◌, true, List, [], ◌++◌, map}
 use Rattle.svsm_types.specs.declared.call.Regs.{Regs}
 use Rattle.svsm_types.specs.declared.request.Request.{Request}
 use Rattle.svsm_types.specs.declared.request.Request.TheVariants.{Call}

@@ -29,17 +29,18 @@ IsBadImage told = IfSome told (λ bytes. bytes ≢ base_image)
 abbrev pub IsBadScript : Option (List ℕ) → Type 0
 IsBadScript told = IfSome told (λ bytes. script_of bytes ≡ None)
 
--- why an image was not loaded
+-- why an image was not loaded. `from` and `to` are the shelf's counts of faults before and after, and `failed` the name of the
+-- last load that failed: a file is refused only where its load did not fail
 abbrev pub ImageCause : Option (List ℕ) → List ℕ → ℕ → ℕ → Option (List ℕ) → Stop → Type 0
 ImageCause told name from to failed stops.Memory = Unit {0}
-ImageCause told name from to failed stops.Image = IsBadImage told
+ImageCause told name from to failed stops.Image = (to ≡ from) × IsBadImage told
 ImageCause told name from to failed (stops.Read file) = (file ≡ 0) × FailedAt name from to failed
 ImageCause told name from to failed _ = ⊥
 
 -- why the script of a core was not loaded
 abbrev pub ScriptCause : ℕ → Option (List ℕ) → List ℕ → ℕ → ℕ → Option (List ℕ) → Stop → Type 0
 ScriptCause core told name from to failed stops.Memory = Unit {0}
-ScriptCause core told name from to failed (stops.Script at) = (at ≡ core) × IsBadScript told
+ScriptCause core told name from to failed (stops.Script at) = (at ≡ core) × (to ≡ from) × IsBadScript told
 ScriptCause core told name from to failed (stops.Read file) = (file ≡ core + 1) × FailedAt name from to failed
 ScriptCause core told name from to failed _ = ⊥
 

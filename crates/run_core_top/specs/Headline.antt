@@ -1,8 +1,7 @@
 -- What the top call promises.
-use Rattle.std.specs.Prelude.{◌≡◌, ◌⊎◌, ℕ, Bool, true, false, if◌then◌else◌, List, [], ◌∷◌, Option, None, Some}
+use Rattle.std.specs.Prelude.{◌≡◌, ℕ, false, List, [], ◌∷◌, Option, None, Some}
 use Rattle.svsm_types.specs.declared.request.Request.{Request}
 use Rattle.svsm_steps.specs.declared.entry.Entry.{Entry}
-use Rattle.svsm_steps.specs.declared.outcome.CoreEnd.{CoreEnd}
 use Rattle.svsm_steps.specs.declared.outcome.CoreEnd.TheVariants as ends
 use Rattle.svsm_steps.specs.declared.outcome.CoreRun.{CoreRun}
 use Rattle.svsm_steps.specs.State.{rmp_rows}
@@ -12,7 +11,7 @@ use Rattle.svsm_steps.specs.Safe.{AlwaysSafe}
 use Rattle.svsm_calls.specs.Run.{IsRun}
 use Rattle.run_core_top.specs.declared.stop.Stop.{Stop}
 use Rattle.run_core_top.specs.declared.stop.Stop.TheVariants as stops
-use Rattle.run_core_top.specs.Outside.{Rose, Appends, AppendsPart}
+use Rattle.run_core_top.specs.Outside.{Appends, AppendsPart}
 use Rattle.run_core_top.specs.Words.{command_of}
 use Rattle.run_core_top.specs.Image.{base_image}
 use Rattle.run_core_top.specs.Base.{base}
@@ -20,48 +19,36 @@ use Rattle.run_core_top.specs.Causes.{Agrees, IsScript, FilesCause}
 use Rattle.run_core_top.specs.Stops.{status_of, stop_line}
 use Rattle.run_core_top.specs.Report.{report_text}
 
--- whether a core ended by a fault, or by a wrong answer of the host
-abbrev pub has_faulted : CoreEnd → Bool
-has_faulted (ends.Faulted ticket) = true
-has_faulted _ = false
-
 -- the trace is a run of the machine of the base image with the script on core 0, no step of it let the guest reach a page that
--- the module owns, and the text is its report. `faulted` tells whether core 0 faulted; core 1 is parked
-pub record IsReported (script : List Request) (trace : List Entry) (text : List ℕ) (faulted : Bool) : Type 0 where
+-- the module owns, and the text is its report. Core 0 met no fault: it made all its requests and left; core 1 is parked
+pub record IsReported (script : List Request) (trace : List Entry) (text : List ℕ) : Type 0 where
   pub first : CoreRun
   pub second : CoreRun
   pub run : IsRun base (script ∷ []) trace (first ∷ second ∷ [])
-  pub ended : faulted ≡ has_faulted first.end
+  pub ended : first.end ≡ ends.Done
   pub safe : AlwaysSafe (constants_of base) (booted base) trace
   pub prints : text ≡ report_text false (first ∷ second ∷ []) trace (rmp_rows 2 (state_after (constants_of base) (booted base) trace))
 
 -- the files of the words, and what was made of them
-pub record IsCarriedOut (told : List ℕ → Option (List ℕ)) (words : List (List ℕ)) (trace : List Entry) (text : List ℕ) (faulted : Bool) : Type 0 where
+pub record IsCarriedOut (told : List ℕ → Option (List ℕ)) (words : List (List ℕ)) (trace : List Entry) (text : List ℕ) : Type 0 where
   pub image : List ℕ
   pub script : List ℕ
   pub requests : List Request
   pub is_command : command_of words ≡ Some (record { image = image; scripts = script ∷ [] })
   pub is_image : Agrees (told image) base_image
   pub is_script : IsScript (told script) requests
-  pub report : IsReported requests trace text faulted
+  pub report : IsReported requests trace text
 
--- the status where all was written
-abbrev pub done_status : Bool → ℕ
-done_status faulted = if faulted then 1 else 0
-
--- all was written, and the status tells whether a core faulted
-pub record Headline (told : List ℕ → Option (List ℕ)) (words : List (List ℕ)) (before now : Option (List ℕ)) (status : ℕ) (trace : List Entry) : Type 0 where
+-- all was written
+pub record Headline (told : List ℕ → Option (List ℕ)) (words : List (List ℕ)) (before now : Option (List ℕ)) (trace : List Entry) : Type 0 where
   pub text : List ℕ
-  pub faulted : Bool
-  pub is_status : status ≡ done_status faulted
-  pub carried_out : IsCarriedOut told words trace text faulted
+  pub carried_out : IsCarriedOut told words trace text
   pub printed : Appends before now text
 
 -- a write failed: a proper front of the text was written
 pub record IsCutOff (told : List ℕ → Option (List ℕ)) (words : List (List ℕ)) (before now : Option (List ℕ)) (trace : List Entry) : Type 0 where
   pub text : List ℕ
-  pub faulted : Bool
-  pub carried_out : IsCarriedOut told words trace text faulted
+  pub carried_out : IsCarriedOut told words trace text
   pub printed : AppendsPart before now text
 
 -- why the words were not carried out: they are not of the form, or their files have this cause

@@ -1,5 +1,5 @@
 -- How one call of a core went, and what it added to the history.
-use Rattle.std.specs.Prelude.{◌≡◌, ℕ, true, IsTrue, Option, Some, List, [], ◌∷◌, ◌++◌, map}
+use Rattle.std.specs.Prelude.{◌≡◌, ℕ, IsTrue, Some, List, [], ◌∷◌, map}
 use Rattle.std.specs.List.{list_all}
 use Rattle.svsm_types.specs.declared.call.Regs.{Regs}
 use Rattle.svsm_types.specs.declared.request.Request.{Request}
@@ -9,9 +9,8 @@ use Rattle.svsm_steps.specs.declared.answer.Answer.TheVariants.{Fault}
 use Rattle.svsm_steps.specs.declared.call.Caller.{Caller}
 use Rattle.svsm_steps.specs.declared.call.Do.{Do}
 use Rattle.svsm_steps.specs.declared.entry.Entry.{Entry}
-use Rattle.svsm_steps.specs.declared.outcome.Outcome.{Outcome}
 use Rattle.svsm_steps.specs.Formed.{is_listed}
-use Rattle.svsm_calls.specs.Dialogue.{Asked, ◌gives◌}
+use Rattle.svsm_calls.specs.Dialogue.{◌gives◌}
 use Rattle.svsm_calls.specs.Events.{made_of, started}
 use Rattle.svsm_calls.specs.Sequences.{IsExit, takes_pending}
 use Rattle.svsm_calls.specs.CoreRun.{call_outcome, IsPiece, IsCutOff}

@@ -4,7 +4,7 @@ ghost use Rattle.std.specs.List.{All};
 ghost use Rattle.svsm_steps.specs.State.{rmp_rows};
 ghost use Rattle.machine_core.specs.Views.{state_of, constants_of};
 ghost use Rattle.run_core_top.specs.Carried.{IsPlainCall};
-ghost use Rattle.run_core_top.specs.Headline.{IsReported, has_faulted};
+ghost use Rattle.run_core_top.specs.Headline.{IsReported};
 
 use crate::core_run::run_core;
 use crate::image::base;
@@ -20,8 +20,6 @@ use svsm_types::{NoMemory, Page, Request, RmpRow, Sequence};
 pub struct Report {
     pub trace: Vec<Entry>,
     pub text: Vec<u8>,
-    /// A core faulted.
-    pub faulted: bool,
 }
 
 // All that stands of each page.
@@ -35,12 +33,6 @@ fn rows_of(alloc: Global, machine: &Machine, regions: u64) -> Result<Vec<RmpRow>
         rows.push(machine.row(Page(page)))?;
     }
     Ok(rows)
-}
-
-fn has_faulted(end: &CoreEnd) -> bool
-    ensures { result ≡ has_faulted end.now }
-{
-    matches!(end, CoreEnd::Faulted { .. })
 }
 
 // A core that no wave has.
@@ -57,18 +49,16 @@ fn unstarted(alloc: Global, core: u32) -> CoreRun
 /// Runs the script on core 0 and reports on it.
 pub fn run_base<G: Gate>(alloc: Global, gate: &G, script: &[Request]) -> Result<Report, NoMemory>
     requires { All IsPlainCall script.now }
-    ensures { IfOk result (λ report. IsReported script.now report.trace.items report.text.items report.faulted) }
+    ensures { IfOk result (λ report. IsReported script.now report.trace.items report.text.items) }
 {
     let image = base(alloc)?;
     let mut recorder = Recorder::booted(alloc, &image)?;
     let first = run_core(alloc, &mut recorder, &image, gate, script)?;
-    let faulted = has_faulted(&first.end);
     let cores = vec![in alloc; first, unstarted(alloc, 1)]?;
     let rows = rows_of(alloc, &recorder.machine, image.regions)?;
     let text = report_of(alloc, false, &cores, &recorder.trace, &rows)?;
     Ok(Report {
         trace: recorder.trace,
         text,
-        faulted,
     })
 }

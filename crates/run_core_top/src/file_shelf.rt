@@ -4,7 +4,7 @@ ghost use Rattle.std.specs.Prelude.{◌≡◌, ◌≤◌, None, length, option_m
 use crate::{LoadError, Shelf};
 use std::alloc::Global;
 use std::fs;
-use std::io::Read;
+use std::io::{self, Read};
 use std::rt::Files;
 
 /// The files of the system, by their paths. It tells no bytes.
@@ -29,18 +29,28 @@ impl<'a, R: Files> FileShelf<'a, R> {
     }
 }
 
+// Want of memory is no failure of the file.
+fn cause_of(error: &io::Error) -> LoadError {
+    match error.kind() {
+        io::ErrorKind::OutOfMemory => LoadError::NoMemory,
+        _ => LoadError::Failed,
+    }
+}
+
 // The bytes of a file, where they are at most so many.
 fn read_file<R: Files>(rt: &R, alloc: Global, name: &str, limit: u64) -> Result<Vec<u8>, LoadError>
     ensures { IfOk result (λ v. length v.items ≤ limit) }
 {
-    let Ok(mut file) = fs::open(rt, name) else {
-        return Err(LoadError::Failed);
+    let mut file = match fs::open(rt, name) {
+        Ok(file) => file,
+        Err(error) => return Err(cause_of(&error)),
     };
     let mut bytes = Vec::new(alloc);
     let mut part = [0u8; 4096];
     'reads: loop {
-        let Ok(count) = file.read(&mut part) else {
-            return Err(LoadError::Failed);
+        let count = match file.read(&mut part) {
+            Ok(count) => count,
+            Err(error) => return Err(cause_of(&error)),
         };
         if count == 0 {
             return Ok(bytes);

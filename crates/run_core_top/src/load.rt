@@ -33,7 +33,9 @@ fn load_image<S: Shelf>(alloc: Global, shelf: &mut S, name: &str) -> Result<(), 
 /// Loads the script of core 0.
 #[tactic(auto, using(crate::proofs::CauseLemmas::long_script))]
 fn load_script<S: Shelf>(alloc: Global, shelf: &mut S, name: &str) -> Result<Vec<Request>, Stop>
+    ensures same { S.told shelf.new ≡ S.told shelf.old }
     ensures ok { IfOk result (λ requests. IsScript (S.told shelf.old name.now) requests.items) }
+    ensures calm { OnOk result (S.faults shelf.new ≡ S.faults shelf.old) }
     ensures calls { IfOk result (λ requests. All IsPlainCall requests.items) }
     ensures stop { IfErr result (λ stop. ScriptCause 0 (S.told shelf.old name.now) name.now (S.faults shelf.old) (S.faults shelf.new) (S.failed shelf.new) stop) }
 {
@@ -56,6 +58,8 @@ pub fn load_files<S: Shelf>(
     image: &str,
     script: &str,
 ) -> Result<Vec<Request>, Stop>
+    ensures same { S.told shelf.new ≡ S.told shelf.old }
+    ensures calm { OnOk result (S.faults shelf.new ≡ S.faults shelf.old) }
     ensures image { OnOk result (Agrees (S.told shelf.old image.now) base_image) }
     ensures script { IfOk result (λ requests. IsScript (S.told shelf.old script.now) requests.items) }
     ensures calls { IfOk result (λ requests. All IsPlainCall requests.items) }

@@ -1,3 +1,5 @@
+mod rows;
+
 use super::*;
 use crate::report::report_of;
 use crate::stop::{Stop, tell_stop};

@@ -1,10 +1,12 @@
 //! The top call.
-ghost use Rattle.std.specs.Prelude.{◌≡◌, ◌≢◌, ◌↔◌, ◌⊎◌, [], ◌∷◌, List, ℕ, None, Some, Option, map, string_bytes, IfOk, IfErr};
+ghost use Rattle.std.specs.Prelude.{◌≡◌, ◌≢◌, ◌↔◌, ◌⊎◌, [], ◌∷◌, List, ℕ, None, Some, Option, map, string_bytes, IfOk, IfErr, OnOk};
 ghost use Rattle.run_core_top.specs.Outside.{Rose, Tells};
 ghost use Rattle.run_core_top.specs.Words.{command_of};
 ghost use Rattle.run_core_top.specs.declared.stop.Stop.{Stop};
 ghost use Rattle.run_core_top.specs.declared.stop.Stop.TheVariants as stops;
 ghost use Rattle.run_core_top.specs.Image.{base_image};
+ghost use Rattle.svsm_types.specs.declared.request.Request.{Request};
+ghost use Rattle.run_core_top.specs.Script.{script_of};
 ghost use Rattle.run_core_top.specs.Causes.{Agrees, IsScript, FilesCause};
 ghost use Rattle.run_core_top.specs.Stops.{status_of, stop_line};
 ghost use Rattle.run_core_top.specs.Headline.{IsReported, Headline, IsCutOff, StopsWith};
@@ -36,8 +38,10 @@ fn carry_out<S: Shelf, G: Gate>(
     script: &str,
     gate: &G,
 ) -> Result<Report, Stop>
+    ensures same { S.told shelf.new ≡ S.told shelf.old }
+    ensures calm { OnOk result (S.faults shelf.new ≡ S.faults shelf.old) }
     ensures image { IfOk result (λ r. Agrees (S.told shelf.old image.now) base_image) }
-    ensures report { IfOk result (λ r. (requests : _) × IsScript (S.told shelf.old script.now) requests × IsReported requests r.trace.items r.text.items r.faulted) }
+    ensures report { IfOk result (λ r. (requests : _) × IsScript (S.told shelf.old script.now) requests × IsReported requests r.trace.items r.text.items) }
     ensures stop { IfErr result (λ stop. FilesCause (S.told shelf.old) image.now script.now (S.faults shelf.old) (S.faults shelf.new) (S.failed shelf.new) stop) }
 {
     let requests = load_files(alloc, shelf, image, script)?;
@@ -67,14 +71,29 @@ pub fn svsm_top<R: Threads + Wait + Sync, S: Shelf, W: Sink, E: Sink, G: Gate + 
     err: &mut E,
     gate: &G,
 ) -> Ran
-    ensures done { (result.status ≡ 0) ⊎ (result.status ≡ 1) → Headline (S.told shelf.old) (map string_bytes words.now) (W.written out.old) (W.written out.new) result.status result.trace.items }
+    ensures done { result.status ≡ 0 → Headline (S.told shelf.old) (map string_bytes words.now) (W.written out.old) (W.written out.new) result.trace.items }
     ensures words { (result.status ≡ 2) ↔ (command_of (map string_bytes words.now) ≡ None) }
     ensures cut_off { result.status ≡ 6 → IsCutOff (S.told shelf.old) (map string_bytes words.now) (W.written out.old) (W.written out.new) result.trace.items }
+    ensures same { S.told shelf.new ≡ S.told shelf.old }
+    // Where the words are refused nothing is loaded, and where a run was made both loads succeeded.
+    ensures unread { result.status ≡ 2 → S.faults shelf.new ≡ S.faults shelf.old }
+    ensures loaded { result.status ≡ 0 → S.faults shelf.new ≡ S.faults shelf.old }
+    ensures loaded_too { result.status ≡ 6 → S.faults shelf.new ≡ S.faults shelf.old }
+    ensures unharmed { result.status ≢ 6 → W.faults out.new ≡ W.faults out.old }
     ensures write { result.status ≡ 6 → Rose (W.faults out.old) (W.faults out.new) }
-    ensures stop { (result.status ≡ 0) ⊎ (result.status ≡ 1) ⊎ (result.status ≡ 6) ⊎ StopsWith (S.told shelf.old) (map string_bytes words.now) (S.faults shelf.old) (S.faults shelf.new) (S.failed shelf.new) result.status
+    ensures stop { (result.status ≡ 0) ⊎ (result.status ≡ 6) ⊎ StopsWith (S.told shelf.old) (map string_bytes words.now) (S.faults shelf.old) (S.faults shelf.new) (S.failed shelf.new) result.status
         (Tells (E.written err.old) (E.written err.new) (E.faults err.old) (E.faults err.new)) }
-    ensures kept { (result.status ≡ 0) ⊎ (result.status ≡ 1) ⊎ (result.status ≡ 6) ⊎ ((W.written out.new ≡ W.written out.old) × (result.trace.items ≡ [])) }
-    ensures silent { (result.status ≡ 0) ⊎ (result.status ≡ 1) → E.written err.new ≡ E.written err.old }
+    ensures kept { (result.status ≡ 0) ⊎ (result.status ≡ 6) ⊎ ((W.written out.new ≡ W.written out.old) × (result.trace.items ≡ [])) }
+    // An image that is told and is not the one that is read is refused, unless memory ran out or a load failed,
+    ensures bad_image { (image script bytes : List ℕ) → command_of (map string_bytes words.now) ≡ Some (record { image = image; scripts = script ∷ [] }) → S.told shelf.old image ≡ Some bytes → bytes ≢ base_image
+        → (result.status ≡ 3) ⊎ (result.status ≡ 4) ⊎ (result.status ≡ 5) }
+    // and so is a script that is told and is not of the form.
+    ensures bad_script { (image script bytes : List ℕ) → command_of (map string_bytes words.now) ≡ Some (record { image = image; scripts = script ∷ [] }) → S.told shelf.old script ≡ Some bytes → script_of bytes ≡ None
+        → (result.status ≡ 3) ⊎ (result.status ≡ 4) ⊎ (result.status ≡ 5) }
+    // Files that are told and of their form are not refused.
+    ensures good { (image script bytes : List ℕ) → (requests : List Request) → command_of (map string_bytes words.now) ≡ Some (record { image = image; scripts = script ∷ [] }) → S.told shelf.old image ≡ Some base_image
+        → S.told shelf.old script ≡ Some bytes → script_of bytes ≡ Some requests → result.status ≢ 4 }
+    ensures silent { result.status ≡ 0 → E.written err.new ≡ E.written err.old }
     ensures write_line { result.status ≡ 6 → Tells (E.written err.old) (E.written err.new) (E.faults err.old) (E.faults err.new) (stop_line stops.Write) }
 {
     let _ = rt;
@@ -89,7 +108,7 @@ pub fn svsm_top<R: Threads + Wait + Sync, S: Shelf, W: Sink, E: Sink, G: Gate + 
         Err(stop) => stopped(alloc, err, stop),
         Ok(report) => match append_all(out, &report.text) {
             Ok(()) => Ran {
-                status: if report.faulted { 1 } else { 0 },
+                status: 0,
                 trace: report.trace,
             },
             Err(Faulted) => {

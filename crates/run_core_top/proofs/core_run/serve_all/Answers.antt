@@ -1,4 +1,4 @@
-use Rattle.std.proofs.Common.{◌≡◌, List, [], refl, sym, ◌∙◌, subst}
+use Rattle.std.proofs.Common.{List, [], refl, sym, ◌∙◌, subst}
 use Rattle.svsm_steps.specs.declared.outcome.Outcome.{Outcome}
 use Rattle.run_core_top.specs.declared.served.Served.{Served}
 use Rattle.run_core_top.specs.Carried.{HasServed, HasCarriedOut}

@@ -1,4 +1,4 @@
-use Rattle.std.proofs.Common.{◌≡◌, ◌%◌, ◌^◌, true, false, sym, subst, arith, refl}
+use Rattle.std.proofs.Common.{◌≡◌, true, false, sym, subst, arith, refl}
 use Rattle.svsm_steps.specs.declared.answer.Answer.{Answer}
 use Rattle.svsm_steps.specs.declared.outcome.Outcome.TheVariants as outcomes
 use Rattle.svsm_calls.specs.Calls.{is_pending}

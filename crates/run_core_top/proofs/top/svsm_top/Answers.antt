@@ -1,35 +1,27 @@
-use Rattle.std.proofs.Common.{◌≡◌, ℕ, List, inl, inr, sym, subst, rules, ◌∙◌, ap, refl}
+use Rattle.std.proofs.Common.{ℕ, List, inr, subst}
 use Rattle.std.specs.Prelude.{map, string_bytes}
 use Rattle.run_core_top.specs.Outside.{Appends, AppendsPart, Tells}
-use Rattle.run_core_top.specs.Headline.{done_status}
 use Rattle.run_core_top.proofs.TopLemmas.{carried, stops_with}
-use Rattle.run_core_top.proofs.top.svsm_top.Goals.{then-report, else-report}
 use Rattle.run_core_top.proofs.top.svsm_top.Goals as goal
 
 pub returns-in-Err-clause-stop : goal.returns-in-Err-clause-stop
-returns-in-Err-clause-stop g c = inr (inr (inr (stops_with (g.S.Shelf.told c.args.shelf.now) (map string_bytes c.args.words.now) c.in-Some.command.image.now c.in-Some.command.script.now
+returns-in-Err-clause-stop g c = inr (inr (stops_with (g.S.Shelf.told c.args.shelf.now) (map string_bytes c.args.words.now) c.in-Some.command.image.now c.in-Some.command.script.now
     (g.S.Shelf.faults c.args.shelf.now) (g.S.Shelf.faults c.carry_out.new.shelf) (g.S.Shelf.failed c.carry_out.new.shelf) c.in-Err.stop c.stopped.result.status
     (Tells (g.E.Sink.written c.args.err.now) (g.E.Sink.written c.stopped.new.err) (g.E.Sink.faults c.args.err.now) (g.E.Sink.faults c.stopped.new.err))
-    c.in-Some.ensures c.in-Err.ensures.stop c.stopped.ensures.stop)))
+    c.in-Some.ensures c.in-Err.ensures.stop c.stopped.ensures.stop))
 
 pub returns-in-Ok-append_all-clause-done : goal.returns-in-Ok-append_all-clause-done
-returns-in-Ok-append_all-clause-done g c = λ either. record {
+returns-in-Ok-append_all-clause-done g c = λ zero. record {
   text = c.in-Ok.report.text.items;
-  faulted = c.in-Ok.report.faulted;
-  is_status = elim c.if-report.branch [
-    | then-report w ↦ w.result-is ∙ sym (ap done_status w.if-report.true)
-    | else-report w ↦ w.result-is ∙ sym (ap done_status w.if-report.false)
-  ];
   carried_out = carried (g.S.Shelf.told c.args.shelf.now) (map string_bytes c.args.words.now) c.in-Some.command.image.now c.in-Some.command.script.now
-      c.in-Ok.report.trace.items c.in-Ok.report.text.items c.in-Ok.report.faulted c.in-Some.ensures c.in-Ok.ensures.image c.in-Ok.ensures.report;
+      c.in-Ok.report.trace.items c.in-Ok.report.text.items c.in-Some.ensures c.in-Ok.ensures.image c.in-Ok.ensures.report;
   printed = subst (λ (text : List ℕ). Appends (g.W.Sink.written c.args.out.now) (g.W.Sink.written c.append_all.new.out) text) c.deref.ensures.value c.in-Ok-append_all.ensures.whole;
 }
 
 pub returns-clause-cut_off : goal.returns-clause-cut_off
 returns-clause-cut_off g c = λ six. record {
   text = c.in-Ok.report.text.items;
-  faulted = c.in-Ok.report.faulted;
   carried_out = carried (g.S.Shelf.told c.args.shelf.now) (map string_bytes c.args.words.now) c.in-Some.command.image.now c.in-Some.command.script.now
-      c.in-Ok.report.trace.items c.in-Ok.report.text.items c.in-Ok.report.faulted c.in-Some.ensures c.in-Ok.ensures.image c.in-Ok.ensures.report;
+      c.in-Ok.report.trace.items c.in-Ok.report.text.items c.in-Some.ensures c.in-Ok.ensures.image c.in-Ok.ensures.report;
   printed = subst (λ (text : List ℕ). AppendsPart (g.W.Sink.written c.args.out.now) (g.W.Sink.written c.append_all.new.out) text) c.deref.ensures.value c.in-Err-append_all.ensures.part;
 }
