@@ -10,6 +10,7 @@ ghost use Rattle.machine_core.specs.Views.{state_of, constants_of};
 use crate::access::index_of;
 use crate::region::RegionTable;
 use crate::{rows, steps};
+use std::alloc::Global;
 use svsm_steps::{Answer, Step};
 use svsm_types::{Gpa, NoMemory, Page, RmpRow, Row, Size, Vmpl, page_of, region_of};
 
@@ -68,7 +69,7 @@ impl Machine {
     }
 
     /// The machine's one answer. Want of memory leaves the machine as it was.
-    pub fn step(&mut self, step: &Step) -> Result<Answer, NoMemory>
+    pub fn step(&mut self, _alloc: Global, step: &Step) -> Result<Answer, NoMemory>
         requires built { IsBuilt step.now }
         requires formed { IsWellFormed (constants_of self.old).regions step.now }
         ensures ok { IfOk result (λ answer. Performs (constants_of self.old) (state_of self.old) step.now answer (state_of self.new)) }

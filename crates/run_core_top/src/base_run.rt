@@ -18,7 +18,7 @@ use svsm_types::{NoMemory, Page, Request, RmpRow, Sequence};
 /// A history and the report on it.
 #[derive(Drop)]
 pub struct Report {
-    pub trace: Vec<Entry>,
+    pub trace: Sequence<Entry>,
     pub text: Vec<u8>,
 }
 
@@ -49,7 +49,7 @@ fn unstarted(alloc: Global, core: u32) -> CoreRun
 /// Runs the script on core 0 and reports on it.
 pub fn run_base<G: Gate>(alloc: Global, gate: &G, script: &[Request]) -> Result<Report, NoMemory>
     requires { All IsPlainCall script.now }
-    ensures { IfOk result (λ report. IsReported script.now report.trace.items report.text.items) }
+    ensures { IfOk result (λ report. IsReported script.now report.trace report.text.items) }
 {
     let image = base(alloc)?;
     let mut recorder = Recorder::booted(alloc, &image)?;
@@ -58,7 +58,7 @@ pub fn run_base<G: Gate>(alloc: Global, gate: &G, script: &[Request]) -> Result<
     let rows = rows_of(alloc, &recorder.machine, image.regions)?;
     let text = report_of(alloc, false, &cores, &recorder.trace, &rows)?;
     Ok(Report {
-        trace: recorder.trace,
+        trace: Sequence::from_vec(recorder.trace),
         text,
     })
 }

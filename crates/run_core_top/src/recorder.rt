@@ -54,7 +54,8 @@ impl Recorder {
         let place = place_of(image.regions, &step);
         let ticket = self.trace.len() as u64;
         gate.pass(core, place, ticket);
-        let answer = self.machine.step(&step)?;
+        let alloc = *self.trace.allocator();
+        let answer = self.machine.step(alloc, &step)?;
         self.trace.push(Entry {
             ticket,
             core,

@@ -21,13 +21,13 @@ use std::alloc::Global;
 use std::sync::Wait;
 use std::thread::Threads;
 use svsm_steps::{Entry, Gate};
-use svsm_types::Faulted;
+use svsm_types::{Faulted, Sequence};
 
 /// How the program ended, and the history of its run.
 #[derive(Drop)]
 pub struct Ran {
     pub status: u8,
-    pub trace: Vec<Entry>,
+    pub trace: Sequence<Entry>,
 }
 
 // Loads the files and carries out the script.
@@ -41,7 +41,7 @@ fn carry_out<S: Shelf, G: Gate>(
     ensures same { S.told shelf.new ≡ S.told shelf.old }
     ensures calm { OnOk result (S.faults shelf.new ≡ S.faults shelf.old) }
     ensures image { IfOk result (λ r. Agrees (S.told shelf.old image.now) base_image) }
-    ensures report { IfOk result (λ r. (requests : _) × IsScript (S.told shelf.old script.now) requests × IsReported requests r.trace.items r.text.items) }
+    ensures report { IfOk result (λ r. (requests : _) × IsScript (S.told shelf.old script.now) requests × IsReported requests r.trace r.text.items) }
     ensures stop { IfErr result (λ stop. FilesCause (S.told shelf.old) image.now script.now (S.faults shelf.old) (S.faults shelf.new) (S.failed shelf.new) stop) }
 {
     let requests = load_files(alloc, shelf, image, script)?;
@@ -52,12 +52,12 @@ fn carry_out<S: Shelf, G: Gate>(
 fn stopped<E: Sink>(alloc: Global, err: &mut E, stop: Stop) -> Ran
     ensures stop { (told : Stop) × ((told ≡ stop) ⊎ (told ≡ stops.Memory)) × (result.status ≡ status_of told)
         × Tells (E.written err.old) (E.written err.new) (E.faults err.old) (E.faults err.new) (stop_line told) }
-    ensures trace { result.trace.items ≡ [] }
+    ensures trace { result.trace ≡ [] }
 {
     let told = tell_stop(alloc, err, stop);
     Ran {
         status: status_of(told),
-        trace: Vec::new(alloc),
+        trace: Sequence::new(alloc),
     }
 }
 
@@ -71,9 +71,9 @@ pub fn svsm_top<R: Threads + Wait + Sync, S: Shelf, W: Sink, E: Sink, G: Gate + 
     err: &mut E,
     gate: &G,
 ) -> Ran
-    ensures done { result.status ≡ 0 → Headline (S.told shelf.old) (map string_bytes words.now) (W.written out.old) (W.written out.new) result.trace.items }
+    ensures done { result.status ≡ 0 → Headline (S.told shelf.old) (map string_bytes words.now) (W.written out.old) (W.written out.new) result.trace }
     ensures words { (result.status ≡ 2) ↔ (command_of (map string_bytes words.now) ≡ None) }
-    ensures cut_off { result.status ≡ 6 → IsCutOff (S.told shelf.old) (map string_bytes words.now) (W.written out.old) (W.written out.new) result.trace.items }
+    ensures cut_off { result.status ≡ 6 → IsCutOff (S.told shelf.old) (map string_bytes words.now) (W.written out.old) (W.written out.new) result.trace }
     ensures same { S.told shelf.new ≡ S.told shelf.old }
     // Where the words are refused nothing is loaded, and where a run was made both loads succeeded.
     ensures unread { result.status ≡ 2 → S.faults shelf.new ≡ S.faults shelf.old }
@@ -83,7 +83,7 @@ pub fn svsm_top<R: Threads + Wait + Sync, S: Shelf, W: Sink, E: Sink, G: Gate + 
     ensures write { result.status ≡ 6 → Rose (W.faults out.old) (W.faults out.new) }
     ensures stop { (result.status ≡ 0) ⊎ (result.status ≡ 6) ⊎ StopsWith (S.told shelf.old) (map string_bytes words.now) (S.faults shelf.old) (S.faults shelf.new) (S.failed shelf.new) result.status
         (Tells (E.written err.old) (E.written err.new) (E.faults err.old) (E.faults err.new)) }
-    ensures kept { (result.status ≡ 0) ⊎ (result.status ≡ 6) ⊎ ((W.written out.new ≡ W.written out.old) × (result.trace.items ≡ [])) }
+    ensures kept { (result.status ≡ 0) ⊎ (result.status ≡ 6) ⊎ ((W.written out.new ≡ W.written out.old) × (result.trace ≡ [])) }
     // An image that is told and is not the one that is read is refused, unless memory ran out or a load failed,
     ensures bad_image { (image script bytes : List ℕ) → command_of (map string_bytes words.now) ≡ Some (record { image = image; scripts = script ∷ [] }) → S.told shelf.old image ≡ Some bytes → bytes ≢ base_image
         → (result.status ≡ 3) ⊎ (result.status ≡ 4) ⊎ (result.status ≡ 5) }
@@ -101,7 +101,7 @@ pub fn svsm_top<R: Threads + Wait + Sync, S: Shelf, W: Sink, E: Sink, G: Gate + 
         put_line(err, b"svsm_run: words\n");
         return Ran {
             status: 2,
-            trace: Vec::new(alloc),
+            trace: Sequence::new(alloc),
         };
     };
     match carry_out(alloc, shelf, command.image, command.script, gate) {

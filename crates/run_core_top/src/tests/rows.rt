@@ -128,7 +128,7 @@ fn a_failed_load_is_told_by_its_file(rt: HostRuntime) -> Result<(), Fail> {
             &rt, alloc, &words, &mut shelf, &mut out, &mut err, &OpenGate,
         );
         assert_eq!(rt; ran.status, 5);
-        assert!(rt; ran.trace.is_empty());
+        assert!(rt; ran.trace.len() == 0);
         assert!(rt; out.bytes().is_empty());
         assert_eq!(rt; err.bytes(), *line);
     }

@@ -1,11 +1,13 @@
-use Rattle.std.proofs.Common.{◌≡◌, ℕ, false, [], ◌∷◌, rules, sym, ◌∙◌, ap, subst}
+use Rattle.std.proofs.Common.{◌≡◌, ℕ, false, List, [], ◌∷◌, rules, sym, ◌∙◌, ap, subst}
 use Rattle.svsm_types.specs.declared.image.Image.{Image}
 use Rattle.svsm_steps.specs.State.{State, rmp_rows}
 use Rattle.machine_core.specs.Plain.{IsPlain}
 use Rattle.machine_core.specs.Views.{state_of}
+use Rattle.svsm_steps.specs.declared.entry.Entry.{Entry}
 use Rattle.run_core_top.specs.Base.{base}
 use Rattle.run_core_top.specs.Recorded.{IsRecorded}
 use Rattle.run_core_top.specs.Report.{report_text}
+use Rattle.run_core_top.specs.Headline.{IsReported}
 use Rattle.run_core_top.proofs.PlainLemmas.{base_plain}
 use Rattle.run_core_top.proofs.RunLemmas.{base_runs, base_safe}
 use Rattle.run_core_top.proofs.EndLemmas.{base_ends}
@@ -20,7 +22,7 @@ returns g c =
     = subst (λ (image : Image). IsRecorded image c.run_core.new.recorder.machine c.run_core.new.recorder.trace.items) c.in_ok-image.ensures c.in_ok-first.ensures.recorded in
     let printed : c.in_ok-text.text.items ≡ report_text false (c.in_ok-first.first ∷ c.unstarted.result ∷ []) c.run_core.new.recorder.trace.items (rmp_rows c.in_ok-image.image.regions (state_of c.run_core.new.recorder.machine))
     = search rules in
-    record {
+    subst (λ (trace : List Entry). IsReported c.args.script.now trace c.in_ok-text.text.items) (sym c.from_vec.ensures) (record {
       first = c.in_ok-first.first;
       second = c.unstarted.result;
       run = base_runs c.args.script.now c.run_core.new.recorder.machine c.run_core.new.recorder.trace.items c.in_ok-first.first c.unstarted.result recorded
@@ -30,4 +32,4 @@ returns g c =
       prints = printed
           ∙ (ap (λ (n : ℕ). report_text false (c.in_ok-first.first ∷ c.unstarted.result ∷ []) c.run_core.new.recorder.trace.items (rmp_rows n (state_of c.run_core.new.recorder.machine))) (ap (λ (image : Image). image.regions) c.in_ok-image.ensures)
           ∙ ap (λ (s : State). report_text false (c.in_ok-first.first ∷ c.unstarted.result ∷ []) c.run_core.new.recorder.trace.items (rmp_rows 2 s)) recorded.state);
-    }
+    })

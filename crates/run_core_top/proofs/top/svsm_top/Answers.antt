@@ -14,7 +14,7 @@ pub returns-in-Ok-append_all-clause-done : goal.returns-in-Ok-append_all-clause-
 returns-in-Ok-append_all-clause-done g c = λ zero. record {
   text = c.in-Ok.report.text.items;
   carried_out = carried (g.S.Shelf.told c.args.shelf.now) (map string_bytes c.args.words.now) c.in-Some.command.image.now c.in-Some.command.script.now
-      c.in-Ok.report.trace.items c.in-Ok.report.text.items c.in-Some.ensures c.in-Ok.ensures.image c.in-Ok.ensures.report;
+      c.in-Ok.report.trace c.in-Ok.report.text.items c.in-Some.ensures c.in-Ok.ensures.image c.in-Ok.ensures.report;
   printed = subst (λ (text : List ℕ). Appends (g.W.Sink.written c.args.out.now) (g.W.Sink.written c.append_all.new.out) text) c.deref.ensures.value c.in-Ok-append_all.ensures.whole;
 }
 
@@ -22,6 +22,6 @@ pub returns-clause-cut_off : goal.returns-clause-cut_off
 returns-clause-cut_off g c = λ six. record {
   text = c.in-Ok.report.text.items;
   carried_out = carried (g.S.Shelf.told c.args.shelf.now) (map string_bytes c.args.words.now) c.in-Some.command.image.now c.in-Some.command.script.now
-      c.in-Ok.report.trace.items c.in-Ok.report.text.items c.in-Some.ensures c.in-Ok.ensures.image c.in-Ok.ensures.report;
+      c.in-Ok.report.trace c.in-Ok.report.text.items c.in-Some.ensures c.in-Ok.ensures.image c.in-Ok.ensures.report;
   printed = subst (λ (text : List ℕ). AppendsPart (g.W.Sink.written c.args.out.now) (g.W.Sink.written c.append_all.new.out) text) c.deref.ensures.value c.in-Err-append_all.ensures.part;
 }
