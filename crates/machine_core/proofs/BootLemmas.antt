@@ -1,8 +1,9 @@
 -- Accepting one entry after another.
 use Rattle.std.proofs.Common.{◌≡◌, ℕ, suc, ◌+◌, ◌-◌, ◌*◌, ◌<◌, ◌≤◌, ◌^◌, List, [], ◌∷◌, ◌++◌, length, refl, sym, ap, ◌∙◌, arith, ⊎_elim}
-use Rattle.std.specs.Prelude.{if◌then◌else◌, ◌==◌, Bool, true, false, flat_map, map, filter, count_by, min}
+use Rattle.std.specs.Prelude.{if◌then◌else◌, ◌==◌, Bool, true, false, flat_map, map, filter, count_by, cond, min}
 use Rattle.std.proofs.lemmas.Bool.{cases_Bool}
 use Rattle.std.proofs.Common.{append_assoc, append-nil}
+use Rattle.std.proofs.lemmas.List.Sums.{sum_by-cons}
 use mathlib.Core.Path.{fun_ext}
 use Rattle.svsm_types.specs.Numbers.{Numbers, counted}
 use Rattle.svsm_types.specs.Pages.{region_of}
@@ -85,18 +86,19 @@ accepted_count (entry ∷ entries) numbers region made faulting is low = ⊎_eli
     let next : counted_at (region_of entry.0) 5 numbers region ≡ record { made = made + 5; faulting = faulting } =
     ap (λ (b : Bool). if b then counted_by 5 (numbers region) else numbers region) e ∙ ap (counted_by 5) is
     ∙ counted_by_is 5 made faulting (omega arith) ∙ ap {B = Numbers} (λ (n : ℕ). record { made = n; faulting = faulting }) (all_counted made (omega arith)) in
-    let one : count_by (in_region region) (entry ∷ entries) ≡ suc (count_by (in_region region) entries) =
-    ap (λ (b : Bool). Rattle.std.specs.Prelude.cond b 1 0 + count_by (in_region region) entries) e in
+    let one : count_by (in_region region) (entry ∷ entries) ≡ 1 + count_by (in_region region) entries =
+    sum_by-cons (λ (x : ℕ × Size). cond (in_region region x) 1 0) entry entries ∙ ap (λ (b : Bool). cond b 1 0 + count_by (in_region region) entries) e in
     let same : made + 5 + 5 * count_by (in_region region) entries ≡ made + 5 * count_by (in_region region) (entry ∷ entries) = omega arith in
     accepted_count entries (counted_at (region_of entry.0) 5 numbers) region (made + 5) faulting next (omega arith)
     ∙ ap {B = Numbers} (λ (n : ℕ). record { made = n; faulting = faulting }) same)
     (λ (e : in_region region entry ≡ false).
     let next : counted_at (region_of entry.0) 5 numbers region ≡ record { made = made; faulting = faulting } =
     ap (λ (b : Bool). if b then counted_by 5 (numbers region) else numbers region) e ∙ is in
-    let one : count_by (in_region region) (entry ∷ entries) ≡ count_by (in_region region) entries =
-    ap (λ (b : Bool). Rattle.std.specs.Prelude.cond b 1 0 + count_by (in_region region) entries) e in
+    let one : count_by (in_region region) (entry ∷ entries) ≡ 0 + count_by (in_region region) entries =
+    sum_by-cons (λ (x : ℕ × Size). cond (in_region region x) 1 0) entry entries ∙ ap (λ (b : Bool). cond b 1 0 + count_by (in_region region) entries) e in
+    let same : made + 5 * count_by (in_region region) entries ≡ made + 5 * count_by (in_region region) (entry ∷ entries) = omega arith in
     accepted_count entries (counted_at (region_of entry.0) 5 numbers) region made faulting next (omega arith)
-    ∙ ap {B = Numbers} (λ (n : ℕ). record { made = made + 5 * n; faulting = faulting }) (sym one))
+    ∙ ap {B = Numbers} (λ (n : ℕ). record { made = n; faulting = faulting }) same)
     (cases_Bool (in_region region entry))
   where
     all_counted : (made : ℕ) → made + 5 ≤ 2 ^ 64 - 1 → min (made + 5) (2 ^ 64 - 1) ≡ made + 5
@@ -105,22 +107,25 @@ accepted_count (entry ∷ entries) numbers region made faulting is low = ⊎_eli
 abbrev of_region : ℕ → FaultAt → Bool
 of_region region fault = fault.region == region
 
+abbrev numbers_with : ℕ → List ℕ → Numbers
+numbers_with made faulting = record { made = made; faulting = faulting }
+
+listed_by : (region : ℕ) (numbers : Numbers) (fault : FaultAt) (rest : List ℕ) (others : List FaultAt) (b : Bool)
+    → rest ≡ map (λ (f : FaultAt). f.number) others
+    → numbers_with (if b then numbers_with numbers.made (numbers.faulting ++ fault.number ∷ []) else numbers).made
+    ((if b then numbers_with numbers.made (numbers.faulting ++ fault.number ∷ []) else numbers).faulting ++ rest)
+    ≡ numbers_with numbers.made (numbers.faulting ++ map (λ (f : FaultAt). f.number) (if b then fault ∷ others else others))
+listed_by region numbers fault rest others true is =
+    ap (numbers_with numbers.made) (append_assoc numbers.faulting (fault.number ∷ []) rest ∙ ap (λ (l : List ℕ). numbers.faulting ++ fault.number ∷ l) is)
+listed_by region numbers fault rest others false is = ap (λ (l : List ℕ). numbers_with numbers.made (numbers.faulting ++ l)) is
+
 listed_numbers : (faults : List FaultAt) (numbers : ℕ → Numbers) (region : ℕ)
     → listed_all faults numbers region
-    ≡ record { made = (numbers region).made; faulting = (numbers region).faulting ++ map (λ (fault : FaultAt). fault.number) (filter (of_region region) faults) }
-listed_numbers [] numbers region = ap {B = Numbers} (λ (l : List ℕ). record { made = (numbers region).made; faulting = l }) (sym (append-nil (numbers region).faulting))
-listed_numbers (fault ∷ faults) numbers region = listed_numbers faults (listed_one fault numbers) region ∙ by_test (of_region region fault)
-  where
-    rest : List ℕ
-    rest = map (λ (fault : FaultAt). fault.number) (filter (of_region region) faults)
-    by_test : (b : Bool)
-        → record {
-          made = (if b then record { made = (numbers region).made; faulting = (numbers region).faulting ++ fault.number ∷ [] } else numbers region).made;
-          faulting = (if b then record { made = (numbers region).made; faulting = (numbers region).faulting ++ fault.number ∷ [] } else numbers region).faulting ++ rest;
-        }
-        ≡ record { made = (numbers region).made; faulting = (numbers region).faulting ++ map (λ (fault : FaultAt). fault.number) (if b then fault ∷ filter (of_region region) faults else filter (of_region region) faults) }
-    by_test true = ap {B = Numbers} (λ (l : List ℕ). record { made = (numbers region).made; faulting = l }) (append_assoc (numbers region).faulting (fault.number ∷ []) rest)
-    by_test false = refl
+    ≡ numbers_with (numbers region).made ((numbers region).faulting ++ map (λ (f : FaultAt). f.number) (filter (of_region region) faults))
+listed_numbers [] numbers region = ap (numbers_with (numbers region).made) (sym (append-nil (numbers region).faulting))
+listed_numbers (fault ∷ faults) numbers region =
+    listed_numbers faults (listed_one fault numbers) region
+    ∙ listed_by region (numbers region) fault (map (λ (f : FaultAt). f.number) (filter (of_region region) faults)) (filter (of_region region) faults) (of_region region fault) refl
 
 -- the numbers of the booted machine
 pub booted_counts : (image : Image) → 5 * length (accept_entries image) < 2 ^ 64
@@ -128,4 +133,8 @@ pub booted_counts : (image : Image) → 5 * length (accept_entries image) < 2 ^ 
 booted_counts image low = fun_ext (λ region.
     ap (λ (f : ℕ → Numbers). f region) (numbers_of_spans image.accepts (listed_all image.faults (λ (region : ℕ). no_numbers)))
     ∙ accepted_count (accept_entries image) (listed_all image.faults (λ (region : ℕ). no_numbers)) region 0 (map (λ (fault : FaultAt). fault.number) (filter (of_region region) image.faults))
-    (listed_numbers image.faults (λ (region : ℕ). no_numbers) region) (omega arith))
+    (listed_numbers image.faults (λ (region : ℕ). no_numbers) region) (omega arith)
+    ∙ ap (λ (n : ℕ). numbers_with n (map (λ (fault : FaultAt). fault.number) (filter (of_region region) image.faults))) (from_none (5 * count_by (in_region region) (accept_entries image))))
+  where
+    from_none : (n : ℕ) → 0 + n ≡ n
+    from_none n = omega arith

@@ -1,5 +1,5 @@
 -- A step on one table of the machine is a step on one region of the state.
-use Rattle.std.proofs.Common.{◌≡◌, ℕ, zero, suc, ◌<◌, Bool, true, false, List, [], ◌∷◌, length, refl, sym, ap, subst, ◌∙◌, ⊎_elim, arith, get_or, set}
+use Rattle.std.proofs.Common.{◌≡◌, ℕ, zero, suc, ◌<◌, Bool, true, false, List, [], ◌∷◌, ◌++◌, length, refl, sym, ap, subst, ◌∙◌, ⊎_elim, arith, get_or, set}
 use Rattle.std.specs.Prelude.{if◌then◌else◌, ◌==◌, Result, Ok, Err, IfOk, OnErr, OnOk, None, Option, Some, slice_get}
 use Rattle.std.proofs.lemmas.Bool.{cases_Bool, eqb-true, eqb-false}
 use Rattle.std.specs.Option.{option_map_or}
@@ -9,7 +9,7 @@ use Rattle.svsm_steps.specs.declared.step.Step.{Step}
 use Rattle.svsm_steps.specs.declared.answer.Answer.{Answer}
 use Rattle.svsm_steps.specs.declared.answer.Answer.TheVariants.{Fault}
 use Rattle.svsm_steps.specs.State.{State, Constants, RegionState, Block}
-use Rattle.svsm_steps.specs.Machine.{Kind, region, pool, registry, kind, with_region, MayGive, next_by}
+use Rattle.svsm_steps.specs.Machine.{Kind, region, pool, registry, kind, own_region, with_region, MayGive, next_by}
 use Rattle.svsm_steps.specs.Region.{MayAnswer, region_after, fault_at}
 use Rattle.svsm_steps.specs.DueFaults.{region_due, due_at, region_numbers, numbers_after}
 use Rattle.svsm_types.specs.Numbers.{Numbers}
@@ -23,6 +23,7 @@ use Rattle.machine_region.specs.declared.operations.Operations.{Operations}
 use Rattle.machine_core.specs.Performed.{Performs, PerformsAs, listed_at}
 use Rattle.machine_region.specs.Views.{region_view}
 use Rattle.machine_core.specs.Views.{region_at, numbers_at, no_numbers}
+use Rattle.machine_core.specs.Boots.{counted_at}
 use Rattle.machine_core.specs.Numbered.{number_at, AreNumbered}
 use Rattle.machine_core.proofs.CalmLemmas.{pool_no_fault, rows_no_fault}
 use Rattle.svsm_steps.specs.Pool.{pool_answer, pool_after}
@@ -45,11 +46,11 @@ view_at [] k none low = absurd (omega arith)
 view_at (x ∷ tables) zero none low = refl
 view_at (x ∷ tables) (suc k) none low = view_at tables k none (omega arith)
 
-if_so : {A : Type 0} (b : Bool) (x y : A) → b ≡ true → x ≡ (if b then x else y)
+pub if_so : {A : Type 0} (b : Bool) (x y : A) → b ≡ true → x ≡ (if b then x else y)
 if_so true x y h = refl
 if_so false x y h = cc
 
-if_not : {A : Type 0} (b : Bool) (x y : A) → b ≡ false → y ≡ (if b then x else y)
+pub if_not : {A : Type 0} (b : Bool) (x y : A) → b ≡ false → y ≡ (if b then x else y)
 if_not false x y h = refl
 if_not true x y h = cc
 
@@ -175,15 +176,29 @@ set_counts all k one change low is = fun_ext (λ n. ⊎_elim
     counts_other all k n one (eqb-false k n e) ∙ if_not (k == n) (change (numbers_at all n)) (numbers_at all n) e)
     (cases_Bool (k == n)))
 
+none_at : (all : List Operations) (one : Operations) (n : ℕ) → numbers_at all n ≡ no_numbers → numbers_view one ≡ no_numbers → numbers_at (all ++ one ∷ []) n ≡ no_numbers
+none_at [] one zero h is = is
+none_at [] one (suc n) h is = refl
+none_at (x ∷ all) one zero h is = h
+none_at (x ∷ all) one (suc n) h is = none_at all one n h is
+
+pub none_more : (all new : List Operations) (one : Operations) → numbers_at all ≡ (λ (region : ℕ). no_numbers) → numbers_view one ≡ no_numbers → new ≡ all ++ one ∷ []
+    → numbers_at new ≡ (λ (region : ℕ). no_numbers)
+none_more all new one none is added =
+    ap {B = ℕ → Numbers} numbers_at added ∙ fun_ext (λ n. none_at all one n (ap (λ (f : ℕ → Numbers). f n) none) is)
+
+counted_by_test : (b : Bool) (one other old : Numbers) → (b ≡ true → one ≡ other) → (if b then one else old) ≡ (if b then other else old)
+counted_by_test true one other old h = h refl
+counted_by_test false one other old h = refl
+
 -- a step of a region counts its operations
-pub numbers_region : (constants : Constants) (state : State) (step : Step) (answer : Answer) (k count : ℕ) (all : List Operations) (one : Operations)
-    → kind step ≡ region → place_of constants.regions step ≡ k → k < length all → Makes (state.regions k) step answer count
-    → numbers_view one ≡ counted_by count (numbers_at all k)
-    → numbers_at (set all k one) ≡ numbers_after (kind step) constants (numbers_at all) state step answer
-numbers_region constants state step answer k count all one is_region at low makes is =
-    set_counts all k one (λ numbers. region_numbers numbers (state.regions k) step answer) low (is ∙ sym (makes (numbers_at all k)))
-    ∙ ap {B = ℕ → Numbers} (λ (m : ℕ). (λ n. if m == n then region_numbers (numbers_at all n) (state.regions m) step answer else numbers_at all n)) (sym at)
-    ∙ ap {B = ℕ → Numbers} (λ (kd : Kind). numbers_after kd constants (numbers_at all) state step answer) (sym is_region)
+pub numbers_region : (constants : Constants) (state : State) (step : Step) (answer : Answer) (k count : ℕ) (numbers : ℕ → Numbers)
+    → kind step ≡ region → k ≡ place_of constants.regions step → Makes (own_region constants step state) step answer count
+    → counted_at k count numbers ≡ numbers_after (kind step) constants numbers state step answer
+numbers_region constants state step answer k count numbers is_region at makes =
+    fun_ext (λ n. counted_by_test (k == n) (counted_by count (numbers n)) (region_numbers (numbers n) (own_region constants step state) step answer) (numbers n) (λ e. sym (makes (numbers n))))
+    ∙ ap {B = ℕ → Numbers} (λ (m : ℕ). (λ n. if m == n then region_numbers (numbers n) (own_region constants step state) step answer else numbers n)) at
+    ∙ ap {B = ℕ → Numbers} (λ (kd : Kind). numbers_after kd constants numbers state step answer) (sym is_region)
 
 pub numbers_pool : (constants : Constants) (numbers : ℕ → Numbers) (state : State) (step : Step) (answer : Answer) → kind step ≡ pool
     → numbers ≡ numbers_after (kind step) constants numbers state step answer

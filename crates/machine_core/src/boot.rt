@@ -45,10 +45,10 @@ impl Machine {
     {
         let table = table_of(alloc, image.ranges.as_slice(), 512 * image.regions)?;
         let regions = tables_of(alloc, image, &table)?;
-        let operations = operations_of(alloc, image.faults.as_slice(), image.regions)?;
         let blocks = blocks_of(alloc, &table, image.large.as_slice(), image.regions)?;
         let rows = rows_of(alloc, image.cores.as_slice())?;
         let apics = apics_of(alloc, image.cores.as_slice())?;
+        let operations = operations_of(alloc, image.faults.as_slice(), image.regions)?;
         Ok(Machine {
             regions,
             operations,

@@ -2,19 +2,44 @@
 ghost use Rattle.std.specs.Prelude.{◌≡◌, ◌≤◌, ◌<◌, ◌*◌, length, IfOk, OnErr, true};
 ghost use Rattle.svsm_steps.specs.State.{row_at};
 ghost use Rattle.svsm_steps.specs.Formed.{IsWellFormed};
-ghost use Rattle.svsm_steps.specs.Machine.{kind};
+ghost use Rattle.svsm_steps.specs.Machine.{kind, own_region};
 ghost use Rattle.svsm_steps.specs.DueFaults.{numbers_after};
 ghost use Rattle.machine_region.specs.Kinds.{is_of_region, is_of_pool, is_of_registry};
+ghost use Rattle.machine_region.specs.Operations.{Makes};
+ghost use Rattle.machine_core.specs.Boots.{counted_at};
 ghost use Rattle.machine_core.specs.Performed.{Performs, PerformsAs, listed_at};
 ghost use Rattle.machine_core.specs.Views.{state_of, constants_of, numbers_of};
 
 use crate::kinds::{is_of_pool, is_of_region};
 use crate::{Machine, pool, rows};
+use machine_region::Carried;
 use std::alloc::Global;
 use svsm_steps::{Answer, Step, place_of};
 use svsm_types::{NoMemory, Page, RmpRow, Row, region_of};
 
 impl Machine {
+    fn carry_out(&mut self, step: &Step, struck: Option<u8>) -> Result<Carried, NoMemory>
+        requires formed { IsWellFormed (constants_of self.old).regions step.now }
+        requires region { is_of_region step.now ≡ true }
+        ensures ok { IfOk result (λ carried. PerformsAs struck (constants_of self.old) (state_of self.old) step.now carried.answer (state_of self.new)) }
+        ensures makes { IfOk result (λ carried. Makes (own_region (constants_of self.old) step.now (state_of self.old)) step.now carried.answer carried.operations) }
+        ensures err { OnErr result (state_of self.new ≡ state_of self.old) }
+        ensures numbers { numbers_of self.new ≡ numbers_of self.old }
+        ensures constants { constants_of self.new ≡ constants_of self.old }
+    {
+        let place = place_of(self.regions.len() as u64, step);
+        self.regions[place as usize].step(step, struck)
+    }
+
+    fn count(&mut self, region: u64, operations: u8)
+        requires { region < (constants_of self.old).regions }
+        ensures numbers { numbers_of self.new ≡ counted_at region operations (numbers_of self.old) }
+        ensures state { state_of self.new ≡ state_of self.old }
+        ensures constants { constants_of self.new ≡ constants_of self.old }
+    {
+        self.operations[region as usize].count(operations);
+    }
+
     fn region_step(&mut self, step: &Step, struck: Option<u8>) -> Result<Answer, NoMemory>
         requires formed { IsWellFormed (constants_of self.old).regions step.now }
         requires region { is_of_region step.now ≡ true }
@@ -24,9 +49,9 @@ impl Machine {
         ensures kept { OnErr result (numbers_of self.new ≡ numbers_of self.old) }
         ensures constants { constants_of self.new ≡ constants_of self.old }
     {
+        let carried = self.carry_out(step, struck)?;
         let place = place_of(self.regions.len() as u64, step);
-        let carried = self.regions[place as usize].step(step, struck)?;
-        self.operations[place as usize].count(carried.operations);
+        self.count(place, carried.operations);
         Ok(carried.answer)
     }
 
