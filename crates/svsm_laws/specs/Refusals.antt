@@ -11,23 +11,23 @@ use Rattle.svsm_steps.specs.Image.{range_of, page_in, is_held_large, booted}
 use Rattle.svsm_steps.specs.Machine.{Leads, state_after}
 
 -- the answers of a step that did not do what it was asked for
-abbrev pub is_refusal : Answer → Bool
-is_refusal Denied = true
-is_refusal Refused = true
-is_refusal Unchanged = true
-is_refusal (Hw code) = true
-is_refusal (Strange owner) = true
-is_refusal (Empty left) = true
-is_refusal Taken = true
-is_refusal Unknown = true
-is_refusal Running = true
-is_refusal Done = false
-is_refusal (Word word) = false
-is_refusal BadVmsa = false
-is_refusal (Held count) = false
-is_refusal (Block page left) = false
-is_refusal (Seen page caa) = false
-is_refusal (Fault done) = false
+abbrev pub is_refusing : Answer → Bool
+is_refusing Denied = true
+is_refusing Refused = true
+is_refusing Unchanged = true
+is_refusing (Hw code) = true
+is_refusing (Strange owner) = true
+is_refusing (Empty left) = true
+is_refusing Taken = true
+is_refusing Unknown = true
+is_refusing Running = true
+is_refusing Done = false
+is_refusing (Word word) = false
+is_refusing BadVmsa = false
+is_refusing (Held count) = false
+is_refusing (Block page left) = false
+is_refusing (Seen page caa) = false
+is_refusing (Fault done) = false
 
 -- a region that is the same, but that its 2M entry may be split
 pub record IsSameRegion (old new : RegionState) : Type 0 where
@@ -46,7 +46,7 @@ pub record IsSameState (old new : State) : Type 0 where
 abbrev pub RefusalsChangeNothing : Type 0
 RefusalsChangeNothing =
     (constants : Constants) (old : State) (entry : Entry) (new : State) → AreSized old → Leads constants old entry new
-    → IsTrue (is_refusal entry.answer) → IsSameState old new
+    → IsTrue (is_refusing entry.answer) → IsSameState old new
 
 -- the 512 pages of a region that is held as one 2M entry have one state
 abbrev pub IsCommon : RegionState → Type 0

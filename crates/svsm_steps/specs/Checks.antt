@@ -3,7 +3,7 @@
 use Rattle.std.specs.Prelude.{ℕ, Bool, true, false, ◌&&◌, not, if◌then◌else◌, slice_index_or, unwrap_or, Option, None, Some, List, [], ◌∷◌}
 use Rattle.std.specs.List.{list_all, find}
 use Rattle.svsm_types.specs.Pages.{page_of, index_of, covered}
-use Rattle.svsm_types.specs.Hardware.{right_of, allows, page_at, fits, guest_may, guest_may_adjust}
+use Rattle.svsm_types.specs.Hardware.{right_of, has_bit, page_holding, fits, guest_may, guest_may_adjust}
 use Rattle.svsm_types.specs.declared.platform.Size.{Size}
 use Rattle.svsm_types.specs.declared.platform.Size.TheVariants.{Small}
 use Rattle.svsm_types.specs.declared.owner.Owner.{Owner}
@@ -21,17 +21,17 @@ same_owner Pool Pool = true
 same_owner Vmsa Vmsa = true
 same_owner _ _ = false
 
--- Reach: the page of the address is the guest's and recorded, and the right of the VMPL has the bit. It looks at the module's
+-- A page is open to the module's use for a VMPL: the page of the address is the guest's and recorded, and the right of the VMPL has the bit. It looks at the module's
 -- table and the right alone: a page that the host took away is reached, and then faults
-abbrev pub reach : ℕ → ℕ → ℕ → RegionState → Bool
-reach bit vmpl address r =
+abbrev pub is_open_to : ℕ → ℕ → ℕ → RegionState → Bool
+is_open_to bit vmpl address r =
     let index = index_of (page_of address) in
     same_owner (slice_index_or r.owner index Guest) Guest
-    && (slice_index_or r.recorded index false && allows bit (right_of vmpl (page_at address r.hw)))
+    && (slice_index_or r.recorded index false && has_bit bit (right_of vmpl (page_holding address r.hw)))
 
--- reach for reading (1) and for writing (2)
-abbrev pub reach_both : ℕ → ℕ → RegionState → Bool
-reach_both vmpl address r = reach 1 vmpl address r && reach 2 vmpl address r
+-- open for reading (1) and for writing (2)
+abbrev pub is_open_to_both : ℕ → ℕ → RegionState → Bool
+is_open_to_both vmpl address r = is_open_to 1 vmpl address r && is_open_to 2 vmpl address r
 
 -- tests of all covered pages
 abbrev pub all_owned : Owner → Size → ℕ → RegionState → Bool
@@ -55,12 +55,12 @@ checks r (GuestRead vmpl gpa) = (guest_may 1 vmpl.0 gpa.0 r.hw, Denied) ∷ []
 checks r (GuestAdjust vmpl page target mask) = (guest_may_adjust vmpl.0 page.0 target mask r.hw, Denied) ∷ []
 checks r (HostShare page) = []
 checks r (HostAssign page) = []
-checks r (TakePending vmpl gpa) = (reach_both vmpl.0 gpa.0 r, Refused) ∷ []
-checks r (LoadWord vmpl gpa) = (reach 1 vmpl.0 gpa.0 r, Refused) ∷ []
-checks r (StoreNext vmpl gpa next) = (reach_both vmpl.0 gpa.0 r, Refused) ∷ []
-checks r (StoreEntry vmpl gpa word) = (reach_both vmpl.0 gpa.0 r, Refused) ∷ []
-checks r (SetAvail vmpl gpa on) = (reach_both vmpl.0 gpa.0 r, Refused) ∷ []
-checks r (ClearCaa vmpl gpa) = (reach_both vmpl.0 gpa.0 r, Refused) ∷ []
+checks r (TakePending vmpl gpa) = (is_open_to_both vmpl.0 gpa.0 r, Refused) ∷ []
+checks r (LoadWord vmpl gpa) = (is_open_to 1 vmpl.0 gpa.0 r, Refused) ∷ []
+checks r (StoreNext vmpl gpa next) = (is_open_to_both vmpl.0 gpa.0 r, Refused) ∷ []
+checks r (StoreEntry vmpl gpa word) = (is_open_to_both vmpl.0 gpa.0 r, Refused) ∷ []
+checks r (SetAvail vmpl gpa on) = (is_open_to_both vmpl.0 gpa.0 r, Refused) ∷ []
+checks r (ClearCaa vmpl gpa) = (is_open_to_both vmpl.0 gpa.0 r, Refused) ∷ []
 checks r (Validate vmpl page size true) =
     (all_owned Guest size page.0 r, Refused)
     ∷ ((fits size r.hw.large, Hw 6)

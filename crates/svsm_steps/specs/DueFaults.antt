@@ -1,6 +1,6 @@
 -- Which operations fault: those that the platform's table faults, and those whose number the image gives, and no others.
 use Rattle.std.specs.Prelude.{◌≡◌, ℕ, ◌+◌, ◌==◌, Bool, ◌||◌, if◌then◌else◌, Option, None, Some, List, [], ◌∷◌, take, ⊤}
-use Rattle.svsm_types.specs.Numbers.{Numbers, is_listed, counted}
+use Rattle.svsm_types.specs.Numbers.{Numbers, is_to_fault, counted}
 use Rattle.svsm_steps.specs.declared.step.Step.{Step}
 use Rattle.svsm_steps.specs.declared.answer.Answer.{Answer}
 use Rattle.svsm_steps.specs.declared.entry.Entry.{Entry}
@@ -13,7 +13,7 @@ use Rattle.svsm_steps.specs.Machine.{Kind, region, pool, registry, kind, own_reg
 
 -- an operation is due to fault where the platform's table faults it or the image lists its number
 abbrev pub is_due : Numbers → Micro → RegionState → Bool
-is_due numbers micro r = faults micro r || is_listed numbers
+is_due numbers micro r = faults micro r || is_to_fault numbers
 
 -- the first of these micro-operations that is due to fault, counted from k
 abbrev pub first_due : ℕ → Numbers → List Micro → RegionState → Option ℕ

@@ -134,14 +134,14 @@ may_fault (VmsaDrop vmpl page) = true
 may_fault _ = false
 
 -- the size of the block that a step asks for
-abbrev pub size_of : Step → Size
-size_of (PoolPop size) = size
-size_of _ = Small
+abbrev pub popped_size : Step → Size
+popped_size (PoolPop size) = size
+popped_size _ = Small
 
 -- An answer is well formed for its step: it is listed, or a fault where the step may fault. A block lies in the map, aligned
 -- to its size, and so do the page and the calling area of a vCPU.
 abbrev pub IsAnswer : ℕ → Step → Answer → Type 0
 IsAnswer regions step (Fault done) = IsTrue (may_fault step)
-IsAnswer regions step (Block page left) = IsTrue (is_listed step (Block page left)) × IsSizedPage regions (size_of step) page.0
+IsAnswer regions step (Block page left) = IsTrue (is_listed step (Block page left)) × IsSizedPage regions (popped_size step) page.0
 IsAnswer regions step (Seen page caa) = IsTrue (is_listed step (Seen page caa)) × (IsPage regions page.0 × IsWord regions caa.0)
 IsAnswer regions step answer = IsTrue (is_listed step answer)

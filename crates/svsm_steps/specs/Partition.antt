@@ -1,5 +1,5 @@
 -- Pages of the pool and VMSA pages are accounted for once: by the pool's blocks, the rows, and what cores hold between two steps.
-use Rattle.std.specs.Prelude.{◌≡◌, ℕ, ◌+◌, ◌*◌, ◌==◌, nat_le, Bool, true, false, ◌&&◌, ◌||◌, not, List, [], ◌∷◌, filter, count_by, length}
+use Rattle.std.specs.Prelude.{◌≡◌, ℕ, ◌+◌, ◌*◌, ◌==◌, nat_le, Bool, false, ◌&&◌, ◌||◌, not, List, [], ◌∷◌, ◌++◌, filter, count_by, length}
 use Rattle.std.specs.List.{range_with_len}
 use Rattle.svsm_types.specs.Pages.{region_of}
 use Rattle.svsm_types.specs.declared.address.Page.{Page}
@@ -16,7 +16,9 @@ use Rattle.svsm_steps.specs.declared.entry.Entry.{Entry}
 use Rattle.svsm_steps.specs.State.{State, Constants, Block as PoolBlock, owner_at}
 use Rattle.svsm_steps.specs.Checks.{same_owner}
 use Rattle.svsm_steps.specs.Pool.{same_size}
-use Rattle.svsm_steps.specs.Registry.{of_page, same_state}
+use Rattle.svsm_steps.specs.Words.{as_bit}
+use Rattle.svsm_steps.specs.Machine.{state_after}
+use Rattle.svsm_steps.specs.Registry.{of_page, same_row_state}
 
 abbrev pub is_block : Page → Size → PoolBlock → Bool
 is_block page size block = (page.0 == block.page.0) && same_size size block.size
@@ -87,14 +89,15 @@ pool_count constants state entries page =
 -- how often a page is accounted for as a VMSA: by rows that are not reserved, and by cores
 abbrev pub vmsa_count : Constants → State → List Entry → ℕ → ℕ
 vmsa_count constants state entries page =
-    count_by (λ (row : Row). of_page page row && not (same_state row.state Reserved)) state.rows
+    count_by (λ (row : Row). of_page page row && not (same_row_state row.state Reserved)) state.rows
     + cores_that constants (λ core. holds_vmsa page core entries)
-
-abbrev pub once_if : Bool → ℕ
-once_if true = 1
-once_if false = 0
 
 -- after these entries led to the state, the pages of owner Pool and those of owner Vmsa are each accounted for once
 pub record Partition (constants : Constants) (state : State) (entries : List Entry) : Type 0 where
-  pub of_pool : (page : ℕ) → pool_count constants state entries page ≡ once_if (same_owner (owner_at page state) Pool)
-  pub of_vmsa : (page : ℕ) → vmsa_count constants state entries page ≡ once_if (same_owner (owner_at page state) Vmsa)
+  pub of_pool : (page : ℕ) → pool_count constants state entries page ≡ as_bit (same_owner (owner_at page state) Pool)
+  pub of_vmsa : (page : ℕ) → vmsa_count constants state entries page ≡ as_bit (same_owner (owner_at page state) Vmsa)
+
+-- before and after each entry of a history
+abbrev pub PartitionAlong : Constants → State → List Entry → Type 0
+PartitionAlong constants state entries =
+    (front back : List Entry) → entries ≡ front ++ back → Partition constants (state_after constants state front) front

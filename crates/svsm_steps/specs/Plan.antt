@@ -91,27 +91,27 @@ vmsa_holds vmpl features page r =
     is_vmsa vmpl features (r.hw.words (page * 4096 + 0xC8)) (r.hw.words (page * 4096 + 0xD0)) (r.hw.words (page * 4096 + 0x3B0))
 
 -- the row of the step table: all that an admitted step does where nothing ends it early
-abbrev pub row : RegionState → Step → List Micro
-row r (GuestWrite vmpl gpa word) = guest_write gpa.0 word ∷ []
-row r (GuestPend vmpl gpa) = guest_write gpa.0 (with_pending 1 (r.hw.words gpa.0)) ∷ []
-row r (GuestRead vmpl gpa) = []
-row r (GuestAdjust vmpl page target mask) = guest_adjust page.0 target mask ∷ []
-row r (HostShare page) = assign Small page.0 false ∷ []
-row r (HostAssign page) = assign Small page.0 true ∷ []
-row r (TakePending vmpl gpa) = read gpa.0 ∷ (write gpa.0 (with_pending 0 (r.hw.words gpa.0)) ∷ [])
-row r (LoadWord vmpl gpa) = read gpa.0 ∷ []
-row r (StoreNext vmpl gpa next) = read gpa.0 ∷ (write gpa.0 (with_next next (r.hw.words gpa.0)) ∷ [])
-row r (StoreEntry vmpl gpa word) = write gpa.0 word ∷ []
-row r (SetAvail vmpl gpa on) = read gpa.0 ∷ (write gpa.0 (with_available (as_bit on) (r.hw.words gpa.0)) ∷ [])
-row r (ClearCaa vmpl gpa) = write gpa.0 0 ∷ []
-row r (Validate vmpl page size true) =
+abbrev pub step_row : RegionState → Step → List Micro
+step_row r (GuestWrite vmpl gpa word) = guest_write gpa.0 word ∷ []
+step_row r (GuestPend vmpl gpa) = guest_write gpa.0 (with_pending 1 (r.hw.words gpa.0)) ∷ []
+step_row r (GuestRead vmpl gpa) = []
+step_row r (GuestAdjust vmpl page target mask) = guest_adjust page.0 target mask ∷ []
+step_row r (HostShare page) = assign Small page.0 false ∷ []
+step_row r (HostAssign page) = assign Small page.0 true ∷ []
+step_row r (TakePending vmpl gpa) = read gpa.0 ∷ (write gpa.0 (with_pending 0 (r.hw.words gpa.0)) ∷ [])
+step_row r (LoadWord vmpl gpa) = read gpa.0 ∷ []
+step_row r (StoreNext vmpl gpa next) = read gpa.0 ∷ (write gpa.0 (with_next next (r.hw.words gpa.0)) ∷ [])
+step_row r (StoreEntry vmpl gpa word) = write gpa.0 word ∷ []
+step_row r (SetAvail vmpl gpa on) = read gpa.0 ∷ (write gpa.0 (with_available (as_bit on) (r.hw.words gpa.0)) ∷ [])
+step_row r (ClearCaa vmpl gpa) = write gpa.0 0 ∷ []
+step_row r (Validate vmpl page size true) =
     pvalidate size page.0 true ∷ (clear size page.0 ∷ (set_recorded size page.0 true ∷ grant vmpl.0 size page.0))
-row r (Validate vmpl page size false) =
+step_row r (Validate vmpl page size false) =
     revoke size page.0 (pvalidate size page.0 false ∷ (set_recorded size page.0 false ∷ []))
-row r (Deposit vmpl page size) = revoke size page.0 (set_owner size page.0 Pool ∷ [])
-row r (Release vmpl page size) =
+step_row r (Deposit vmpl page size) = revoke size page.0 (set_owner size page.0 Pool ∷ [])
+step_row r (Release vmpl page size) =
     clear size page.0 ∷ (set_owner size page.0 Guest ∷ grant vmpl.0 size page.0)
-row r (VmsaTake vmpl page features) =
+step_row r (VmsaTake vmpl page features) =
     revoke Small page.0
     (set_owner Small page.0 Vmsa
     ∷ (read (page.0 * 4096 + 0xC8)
@@ -120,20 +120,20 @@ row r (VmsaTake vmpl page features) =
     ∷ (if vmsa_holds vmpl.0 features page.0 r
     then rmpadjust Small page.0 1 0 true ∷ []
     else set_owner Small page.0 Guest ∷ grant vmpl.0 Small page.0)))))
-row r (VmsaDrop vmpl page) =
+step_row r (VmsaDrop vmpl page) =
     let efer = page.0 * 4096 + 0xD0 in
     read efer
     ∷ (write efer (without_svme (r.hw.words efer))
     ∷ (rmpadjust Small page.0 1 0 false ∷ (set_owner Small page.0 Guest ∷ grant vmpl.0 Small page.0)))
-row r (PoolPush page size) = []
-row r (PoolPop size) = []
-row r (Reserve apic page caa) = []
-row r (Commit page) = []
-row r (Cancel page) = []
-row r (Retire page) = []
-row r (Remap apic caa) = []
-row r (Enter apic) = []
-row r (Leave apic) = []
+step_row r (PoolPush page size) = []
+step_row r (PoolPop size) = []
+step_row r (Reserve apic page caa) = []
+step_row r (Commit page) = []
+step_row r (Cancel page) = []
+step_row r (Retire page) = []
+step_row r (Remap apic caa) = []
+step_row r (Enter apic) = []
+step_row r (Leave apic) = []
 
 -- whether a row goes on after a micro-operation: not after a fault, and not after a pvalidate that changed nothing
 abbrev pub goes_on : Micro → RegionState → Bool
@@ -154,4 +154,4 @@ ended [] r = []
 ended (micro ∷ micros) r = micro ∷ (if goes_on micro r then ended micros (after micro r) else [])
 
 abbrev pub plan : RegionState → Step → List Micro
-plan r step = ended (row r step) r
+plan r step = ended (step_row r step) r

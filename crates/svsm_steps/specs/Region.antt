@@ -12,7 +12,7 @@ use Rattle.svsm_steps.specs.declared.answer.Answer.{Answer}
 use Rattle.svsm_steps.specs.declared.answer.Answer.TheVariants.{Done, Word, Unchanged, Hw, BadVmsa, Fault}
 use Rattle.svsm_steps.specs.State.{RegionState}
 use Rattle.svsm_steps.specs.Checks.{refusal}
-use Rattle.svsm_steps.specs.Plan.{Micro, pvalidate, is_platform, faults, after, after_all, row, plan, vmsa_holds}
+use Rattle.svsm_steps.specs.Plan.{Micro, pvalidate, is_platform, faults, after, after_all, step_row, plan, vmsa_holds}
 
 -- the answer of an admitted step whose row goes on to its end
 abbrev pub row_answer : RegionState → Step → Answer
@@ -35,7 +35,7 @@ answer_from (pvalidate size page on ∷ micros) r answer =
 answer_from (micro ∷ micros) r answer = answer_from micros (after micro r) answer
 
 abbrev pub answer_of : RegionState → Step → Answer
-answer_of r step = answer_from (row r step) r (row_answer r step)
+answer_of r step = answer_from (step_row r step) r (row_answer r step)
 
 abbrev pub none_faults : List Micro → RegionState → Bool
 none_faults [] r = true
@@ -71,9 +71,9 @@ made_if None micros answer = performed micros (fault_at answer)
 made_if (Some other) micros answer = []
 
 -- the micro-operations that an entry with this answer performed
-abbrev pub made : RegionState → Step → Answer → List Micro
-made r step answer = made_if (refusal r step) (plan r step) answer
+abbrev pub micros_made : RegionState → Step → Answer → List Micro
+micros_made r step answer = made_if (refusal r step) (plan r step) answer
 
 -- the region after the entry
 abbrev pub region_after : RegionState → Step → Answer → RegionState
-region_after r step answer = after_all (made r step answer) r
+region_after r step answer = after_all (micros_made r step answer) r

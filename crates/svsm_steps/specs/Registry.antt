@@ -11,22 +11,22 @@ use Rattle.svsm_steps.specs.declared.answer.Answer.{Answer}
 use Rattle.svsm_steps.specs.declared.answer.Answer.TheVariants.{Done, Seen, Taken, Unknown, Running}
 use Rattle.svsm_steps.specs.Checks.{first_failing}
 
-abbrev pub same_state : RowState → RowState → Bool
-same_state Reserved Reserved = true
-same_state Ready Ready = true
-same_state Entered Entered = true
-same_state Left Left = true
-same_state _ _ = false
+abbrev pub same_row_state : RowState → RowState → Bool
+same_row_state Reserved Reserved = true
+same_row_state Ready Ready = true
+same_row_state Entered Entered = true
+same_row_state Left Left = true
+same_row_state _ _ = false
 
 -- tests of a row. In a run the rows' APIC ids all differ, and so do their pages: at most one row passes
 abbrev pub of_page : ℕ → Row → Bool
 of_page page row = row.page.0 == page
 
 abbrev pub of_page_in : RowState → ℕ → Row → Bool
-of_page_in state page row = of_page page row && same_state row.state state
+of_page_in state page row = of_page page row && same_row_state row.state state
 
 abbrev pub of_apic_in : RowState → ℕ → Row → Bool
-of_apic_in state apic row = (row.apic == apic) && same_state row.state state
+of_apic_in state apic row = (row.apic == apic) && same_row_state row.state state
 
 -- each check, with the answer where it is the first that fails
 abbrev pub rows_checks : List ℕ → List Row → Step → List (Bool × Answer)
@@ -36,7 +36,7 @@ rows_checks apics rows (Reserve apic page caa) =
 rows_checks apics rows (Commit page) = (list_any (of_page_in Reserved page.0) rows, Unknown) ∷ []
 rows_checks apics rows (Cancel page) = (list_any (of_page_in Reserved page.0) rows, Unknown) ∷ []
 rows_checks apics rows (Retire page) =
-    (list_any (λ (row : Row). of_page page.0 row && not (same_state row.state Reserved)) rows, Unknown)
+    (list_any (λ (row : Row). of_page page.0 row && not (same_row_state row.state Reserved)) rows, Unknown)
     ∷ ((not (list_any (of_page_in Entered page.0) rows), Running) ∷ [])
 rows_checks apics rows (Remap apic caa) = (list_any (of_apic_in Entered apic) rows, Unknown) ∷ []
 rows_checks apics rows (Enter apic) = (list_any (of_apic_in Ready apic) rows, Unknown) ∷ []

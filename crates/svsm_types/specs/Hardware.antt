@@ -29,15 +29,15 @@ no_right = record { 0 = 0 }
 abbrev pub right_of : ℕ → PageState → ℕ
 right_of vmpl page = (slice_index_or page.rights (vmpl - 1) no_right).0
 
--- whether a right has one of the bits: read 1, write 2, user execute 4, supervisor execute 8
-abbrev pub allows : ℕ → ℕ → Bool
-allows bit right = right / bit % 2 == 1
+-- whether a number has a bit, given by its value; the bits of a right are read 1, write 2, user execute 4, supervisor execute 8
+abbrev pub has_bit : ℕ → ℕ → Bool
+has_bit bit right = right / bit % 2 == 1
 
 -- whether the module itself may use a page: it is assigned and validated
 abbrev pub is_usable : PageState → Bool
 is_usable page = page.assigned && page.validated
 
--- Access: a VMPL reaches a page that is assigned and validated and to which its right is not empty
+-- Access, by private (encrypted) use of the page: a VMPL reaches a page that is assigned and validated and to which its right is not empty
 abbrev pub reaches : ℕ → PageState → Bool
 reaches vmpl page = is_usable page && not (right_of vmpl page == 0)
 
@@ -59,8 +59,8 @@ abbrev pub blank : PageState
 blank = fresh_page false
 
 -- the state of the page of an address
-abbrev pub page_at : ℕ → Platform → PageState
-page_at address hw = slice_index_or hw.pages (index_of (page_of address)) blank
+abbrev pub page_holding : ℕ → Platform → PageState
+page_holding address hw = slice_index_or hw.pages (index_of (page_of address)) blank
 
 -- SIZES
 
@@ -69,10 +69,10 @@ abbrev pub fits : Size → Bool → Bool
 fits Small large = true
 fits Large large = large
 
--- an operation in 4K splits a 2M entry: each of the 512 pages keeps its state
-abbrev pub split_by : Size → Bool → Bool
-split_by Small large = false
-split_by Large large = large
+-- whether the region is held as one 2M entry after an operation: one in 4K splits it, and each of the 512 pages keeps its state
+abbrev pub large_after : Size → Bool → Bool
+large_after Small large = false
+large_after Large large = large
 
 -- whether each covered page is assigned and validated
 abbrev pub all_usable : Size → ℕ → Platform → Bool
@@ -81,7 +81,7 @@ all_usable size index hw = list_all is_usable (covered blank size index hw.pages
 -- READ AND WRITE OF A WORD BY THE MODULE: a fault where its page is not assigned and validated
 
 unfoldable pub word_faults : ℕ → Platform → Bool
-word_faults address hw = not (is_usable (page_at address hw))
+word_faults address hw = not (is_usable (page_holding address hw))
 
 abbrev pub with_word : ℕ → ℕ → (ℕ → ℕ) → ℕ → ℕ
 with_word address word words other = if address == other then word else words other
@@ -102,7 +102,7 @@ is_within Large page address = region_of (page_of address) == region_of page
 abbrev pub after_clear : Size → ℕ → Platform → Platform
 after_clear size page hw = record hw { words = λ address. if is_within size page address then 0 else hw.words address }
 
--- PVALIDATE: it never faults. FAIL_SIZEMISMATCH (6) for 2M on 4K entries; FAIL_INPUT (1) where a page is not assigned;
+-- PVALIDATE: it never faults by this table, though an image may make it fault. FAIL_SIZEMISMATCH (6) for 2M on 4K entries; FAIL_INPUT (1) where a page is not assigned;
 -- unchanged where the validity is already as asked (the carry flag of the manual); else the validity is set
 
 abbrev pub same_truth : Bool → Bool → Bool
@@ -129,7 +129,7 @@ validated_pages size page on code pages = if does_change code then changed_at bl
 abbrev pub after_pvalidate : Size → ℕ → Bool → Platform → Platform
 after_pvalidate size page on hw = record {
   pages = validated_pages size page on (pvalidate_answer size page on hw) hw.pages;
-  large = split_by size hw.large;
+  large = large_after size hw.large;
   words = hw.words;
 }
 
@@ -146,7 +146,7 @@ adjusted_pages size page vmpl right vmsa pages = changed_at blank size (index_of
 abbrev pub after_rmpadjust : Size → ℕ → ℕ → ℕ → Bool → Platform → Platform
 after_rmpadjust size page vmpl right vmsa hw = record {
   pages = adjusted_pages size page vmpl right vmsa hw.pages;
-  large = split_by size hw.large;
+  large = large_after size hw.large;
   words = hw.words;
 }
 
@@ -167,9 +167,9 @@ after_assign size page on hw = record {
 -- READ AND WRITE BY THE GUEST: denied unless the acting VMPL reaches the page and its right has read (1), respectively write (2)
 
 abbrev pub guest_may : ℕ → ℕ → ℕ → Platform → Bool
-guest_may bit vmpl address hw = reaches vmpl (page_at address hw) && allows bit (right_of vmpl (page_at address hw))
+guest_may bit vmpl address hw = reaches vmpl (page_holding address hw) && has_bit bit (right_of vmpl (page_holding address hw))
 
--- RMPADJUST BY THE GUEST, 4K: denied unless the acting VMPL reaches the page, the target is greater than it and at most 3, and
+-- RMPADJUST BY THE GUEST, 4K: denied unless the acting VMPL reaches the page, the target is less privileged, a greater number of at most 3, and
 -- the mask is at most 15 and within the acting VMPL's right. Else a 2M entry is split, and the target's right is the mask
 
 abbrev pub guest_may_adjust : ℕ → ℕ → ℕ → ℕ → Platform → Bool

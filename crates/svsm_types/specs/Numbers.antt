@@ -9,8 +9,8 @@ pub record Numbers : Type 0 where
   pub faulting : List ℕ
 
 -- whether the next operation is one of those that fault
-abbrev pub is_listed : Numbers → Bool
-is_listed numbers = list_any (λ number. number == numbers.made) numbers.faulting
+abbrev pub is_to_fault : Numbers → Bool
+is_to_fault numbers = list_any (λ number. number == numbers.made) numbers.faulting
 
 -- the numbers after one more operation
 abbrev pub counted : Numbers → Numbers
