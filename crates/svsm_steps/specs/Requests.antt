@@ -16,5 +16,6 @@ pub record IsScript (script : List Request) : Type 0 where
   pub few : length script ≤ 128
   pub requests : All IsRequest script
 
+-- each of these is a script
 abbrev pub AreScripts : List (List Request) → Type 0
 AreScripts scripts = All IsScript scripts
