@@ -11,7 +11,7 @@ ghost use Rattle.svsm_laws.specs.Follows.{PlacesFollow};
 ghost use Rattle.svsm_laws.specs.Mapped.{AnswersAreFormed, StaysMapped, BootedIsMapped};
 ghost use Rattle.svsm_laws.specs.Ownership.{StepsKeepShut, EntriesKeepShut, KeepsOwnership, ShutIsSafe};
 ghost use Rattle.svsm_laws.specs.Places.{AnswersAtItsPlace, ChangesItsPlace, LogsMerge, LogsAreReplays};
-ghost use Rattle.svsm_laws.specs.Refusals.{RefusalsChangeNothing, StaysCommon, BootedIsCommon};
+ghost use Rattle.svsm_laws.specs.Refusals.{RefusalsChangeNothing, NotAdmittedChangesNothing, NoneJoins, StaysCommon, BootedIsCommon};
 ghost use Rattle.svsm_laws.specs.Runs.{RunsGoOn, PlatformsAreFollowed};
 
 /// An entry leads from a state to one state.
@@ -109,9 +109,19 @@ pub fn booted_is_always_safe()
     ensures { BootedIsAlwaysSafe }
 {}
 
-/// A step that is refused changes nothing, but that it may split a 2M entry.
+/// A step with a refusing answer changes nothing, but that a PVALIDATE in 4K may split the 2M entry of its region.
 pub fn refusals_change_nothing()
     ensures { RefusalsChangeNothing }
+{}
+
+/// A step that is not admitted leaves the whole state as it was.
+pub fn not_admitted_changes_nothing()
+    ensures { NotAdmittedChangesNothing }
+{}
+
+/// No step of a core makes a region one 2M entry.
+pub fn none_joins()
+    ensures { NoneJoins }
 {}
 
 /// The pages of each 2M entry keep one common state.
