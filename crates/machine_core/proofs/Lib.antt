@@ -4,6 +4,7 @@ pub mod PoolLemmas
 pub mod KindLemmas
 pub mod RegionLemmas
 pub mod PlayLemmas
+pub mod SoundLemmas
 pub mod BootLemmas
 pub mod OpenLemmas
 pub mod ImageLemmas

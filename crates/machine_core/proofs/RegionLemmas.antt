@@ -13,7 +13,7 @@ use Rattle.svsm_steps.specs.Machine.{Kind, region, pool, registry, kind, own_reg
 use Rattle.svsm_steps.specs.Region.{MayAnswer, region_after, fault_at}
 use Rattle.svsm_steps.specs.DueFaults.{region_due, due_at, region_numbers, numbers_after}
 use Rattle.svsm_types.specs.Numbers.{Numbers}
-use Rattle.svsm_steps.specs.Plan.{row}
+use Rattle.svsm_steps.specs.Plan.{step_row}
 use Rattle.svsm_steps.specs.Place.{place_of}
 use Rattle.svsm_steps.specs.Registry.{rows_answer, rows_after}
 use Rattle.machine_region.specs.declared.region.RegionTable.{RegionTable}
@@ -106,7 +106,7 @@ performs_region struck constants state step answer k r is_region at is = record 
       (subst (λ (n : ℕ). MayAnswer (state.regions n) step (Fault done)) at (subst (λ (kd : Kind). MayGive kd constants state step (Fault done)) is_region may));
   listed = λ numbers s. is.listed (numbers k)
       (s ∙ ap (λ (kd : Kind). listed_at kd constants numbers state step) is_region
-      ∙ ap (λ (n : ℕ). first_listed 0 (numbers n) (row (state.regions n) step)) at)
+      ∙ ap (λ (n : ℕ). first_listed 0 (numbers n) (step_row (state.regions n) step)) at)
       ∙ (ap (λ (n : ℕ). region_due (numbers n) (state.regions n) step) (sym at)
       ∙ ap (λ (kd : Kind). due_at kd constants numbers state step) (sym is_region));
 }

@@ -6,7 +6,7 @@ use Rattle.svsm_steps.specs.declared.answer.Answer.{Answer}
 use Rattle.svsm_steps.specs.declared.answer.Answer.TheVariants.{Fault}
 use Rattle.svsm_steps.specs.State.{State, Constants}
 use Rattle.svsm_steps.specs.Place.{place_of}
-use Rattle.svsm_steps.specs.Plan.{row}
+use Rattle.svsm_steps.specs.Plan.{step_row}
 use Rattle.svsm_steps.specs.Region.{fault_at}
 use Rattle.svsm_steps.specs.DueFaults.{due_at}
 use Rattle.svsm_steps.specs.Machine.{Kind, region, pool, registry, kind, own_region, MayGive, next_by}
@@ -16,7 +16,7 @@ use Rattle.machine_region.specs.Operations.{first_listed}
 -- the first operation of a step that is listed, by the numbers of each region
 abbrev pub listed_at : Kind → Constants → (ℕ → Numbers) → State → Step → Option ℕ
 listed_at region constants numbers state step =
-    first_listed 0 (numbers (place_of constants.regions step)) (row (own_region constants step state) step)
+    first_listed 0 (numbers (place_of constants.regions step)) (step_row (own_region constants step state) step)
 listed_at pool constants numbers state step = None
 listed_at registry constants numbers state step = None
 

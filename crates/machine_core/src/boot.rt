@@ -4,6 +4,7 @@ ghost use Rattle.svsm_types.specs.declared.image.Image.{Image};
 ghost use Rattle.svsm_types.specs.declared.image.Range.{Range};
 ghost use Rattle.svsm_steps.specs.Image.{booted, booted_numbers, image_state, regions_in, is_in_range, constants_of as constants_in};
 ghost use Rattle.machine_core.specs.Boots.{at_page, listed_all};
+ghost use Rattle.svsm_steps.specs.Sound.{IsSound};
 ghost use Rattle.machine_core.specs.Bootable.{IsBootable};
 ghost use Rattle.machine_core.specs.Numbered.{AreNumbered};
 ghost use Rattle.machine_core.specs.Views.{region_at, state_of, constants_of, no_numbers, numbers_of};
@@ -60,9 +61,9 @@ impl Machine {
         })
     }
 
-    /// The booted machine of an image, in time linear in its pages, ranges, accepts and words.
+    /// The booted machine of a sound image, in time linear in its pages, ranges, accepts and words.
     pub fn of_image(alloc: Global, image: &Image) -> Result<Machine, NoMemory>
-        requires { IsBootable image.now }
+        requires { IsSound image.now }
         ensures state { IfOk result (λ machine. state_of machine ≡ booted image.now) }
         ensures numbers { IfOk result (λ machine. numbers_of machine ≡ booted_numbers image.now) }
         ensures constants { IfOk result (λ machine. constants_of machine ≡ constants_in image.now) }

@@ -3,14 +3,14 @@ ghost use Rattle.std.specs.Prelude.{◌≡◌, ◌≤◌, ◌+◌, ◌↔◌, le
 ghost use Rattle.svsm_steps.specs.Region.{fault_at};
 ghost use Rattle.svsm_steps.specs.Formed.{IsWellFormed, AreWellFormed};
 ghost use Rattle.svsm_steps.specs.DueFaults.{numbers_after};
-ghost use Rattle.svsm_laws.specs.Runs.{numbers_after_all};
+ghost use Rattle.svsm_steps.specs.NextEntry.{numbers_after_all};
 ghost use Rattle.svsm_steps.specs.Machine.{IsRunFrom, state_after, kind, next_by};
 ghost use Rattle.machine_core.specs.Views.{state_of, constants_of, numbers_of};
+ghost use Rattle.svsm_steps.specs.Sound.{IsSound};
 ghost use Rattle.svsm_steps.specs.Safe.{AlwaysSafe};
 ghost use Rattle.svsm_steps.specs.Image.{booted, booted_numbers, constants_of as constants_in};
 ghost use Rattle.machine_region.specs.Kinds.{is_of_region, is_of_pool, is_of_registry};
 ghost use Rattle.machine_core.specs.Performed.{PerformsAs};
-ghost use Rattle.machine_core.specs.Bootable.{IsBootable};
 ghost use Rattle.machine_core.specs.Played.{Follows, FailsAt, Fails};
 
 use crate::kinds::{is_of_pool, is_of_region};
@@ -134,7 +134,7 @@ impl Machine {
 #[tactic(auto, using(crate::proofs::PlayLemmas::no_memory))]
 /// Plays a history from the booted machine of an image. It does not look at scripts or at the faults that the image lists.
 pub fn play(alloc: Global, image: &Image, run: &[Entry]) -> Result<Machine, PlayError>
-    requires image { IsBootable image.now }
+    requires image { IsSound image.now }
     requires formed { AreWellFormed image.now.regions run.now }
     ensures run { IfOk result (λ machine. IsRunFrom (constants_in image.now) 0 (booted image.now) run.now) }
     ensures state { IfOk result (λ machine. state_of machine ≡ state_after (constants_in image.now) (booted image.now) run.now) }

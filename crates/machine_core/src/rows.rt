@@ -2,14 +2,14 @@
 ghost use Rattle.std.specs.Prelude.{◌≡◌, ◌<◌, ◌∷◌, ◌++◌, [], List, ℕ, map, find, filter, not, ◌&&◌, ◌||◌, ◌==◌, if◌then◌else◌, IfOk, OnErr, None, Some, Option, true};
 ghost use Rattle.std.specs.List.{list_any};
 ghost use Rattle.svsm_types.specs.declared.vcpu.Row.{Row};
-ghost use Rattle.svsm_steps.specs.Registry.{same_state, of_page, of_page_in, of_apic_in, rows_refusal, with_each, without_each, rows_done, rows_done_answer, rows_answer, rows_after, seen};
+ghost use Rattle.svsm_steps.specs.Registry.{same_row_state, of_page, of_page_in, of_apic_in, rows_refusal, with_each, without_each, rows_done, rows_done_answer, rows_answer, rows_after, seen};
 ghost use Rattle.machine_region.specs.Kinds.{is_of_registry};
 
 use svsm_steps::{Answer, Step};
 use svsm_types::{Gpa, NoMemory, Page, Row, RowState};
 
-fn same_state(a: RowState, b: RowState) -> bool
-    ensures { result ≡ same_state a b }
+fn same_row_state(a: RowState, b: RowState) -> bool
+    ensures { result ≡ same_row_state a b }
 {
     a == b
 }
@@ -23,13 +23,13 @@ fn of_page(page: Page, row: &Row) -> bool
 fn of_page_in(state: RowState, page: Page, row: &Row) -> bool
     ensures { result ≡ of_page_in state page.0 row.now }
 {
-    of_page(page, row) && same_state(row.state, state)
+    of_page(page, row) && same_row_state(row.state, state)
 }
 
 fn of_apic_in(state: RowState, apic: u32, row: &Row) -> bool
     ensures { result ≡ of_apic_in state apic row.now }
 {
-    row.apic == apic && same_state(row.state, state)
+    row.apic == apic && same_row_state(row.state, state)
 }
 
 // A row of this core or this page.
@@ -41,9 +41,9 @@ fn takes(apic: u32, page: Page, row: &Row) -> bool
 
 // A row of this page that is not Reserved.
 fn stands(page: Page, row: &Row) -> bool
-    ensures { result ≡ (of_page page.0 row.now && not (same_state row.now.state RowState.Reserved)) }
+    ensures { result ≡ (of_page page.0 row.now && not (same_row_state row.now.state RowState.Reserved)) }
 {
-    of_page(page, row) && !same_state(row.state, RowState::Reserved)
+    of_page(page, row) && !same_row_state(row.state, RowState::Reserved)
 }
 
 fn has_page_in(rows: &[Row], state: RowState, page: Page) -> bool
@@ -71,7 +71,7 @@ fn is_taken(rows: &[Row], apic: u32, page: Page) -> bool
 }
 
 fn is_standing(rows: &[Row], page: Page) -> bool
-    ensures { result ≡ list_any (λ (row : Row). of_page page.0 row && not (same_state row.state RowState.Reserved)) rows.now }
+    ensures { result ≡ list_any (λ (row : Row). of_page page.0 row && not (same_row_state row.state RowState.Reserved)) rows.now }
 {
     rows.iter().any(|row| stands(page, row))
 }

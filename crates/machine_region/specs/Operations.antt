@@ -1,6 +1,6 @@
 -- The operations of a region, by their numbers.
-use Rattle.std.specs.Prelude.{◌≡◌, ℕ, zero, suc, ◌+◌, Bool, if◌then◌else◌, Option, None, Some, List, [], ◌∷◌}
-use Rattle.svsm_types.specs.Numbers.{Numbers, is_listed, counted}
+use Rattle.std.specs.Prelude.{◌≡◌, ℕ, zero, suc, ◌+◌, if◌then◌else◌, Option, None, Some, List, [], ◌∷◌}
+use Rattle.svsm_types.specs.Numbers.{Numbers, is_to_fault, counted}
 use Rattle.svsm_steps.specs.declared.answer.Answer.{Answer}
 use Rattle.svsm_steps.specs.declared.step.Step.{Step}
 use Rattle.svsm_steps.specs.State.{RegionState}
@@ -21,7 +21,7 @@ abbrev pub first_listed : ℕ → Numbers → List Op → Option ℕ
 first_listed k numbers [] = None
 first_listed k numbers (op ∷ ops) =
     if is_platform op
-    then (if is_listed numbers then Some k else first_listed (k + 1) (counted numbers) ops)
+    then (if is_to_fault numbers then Some k else first_listed (k + 1) (counted numbers) ops)
     else first_listed (k + 1) numbers ops
 
 -- a step with this answer made so many operations

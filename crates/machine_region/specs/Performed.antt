@@ -5,7 +5,7 @@ use Rattle.svsm_steps.specs.declared.step.Step.{Step}
 use Rattle.svsm_steps.specs.declared.answer.Answer.{Answer}
 use Rattle.svsm_steps.specs.declared.answer.Answer.TheVariants.{Fault}
 use Rattle.svsm_steps.specs.State.{RegionState}
-use Rattle.svsm_steps.specs.Plan.{row}
+use Rattle.svsm_steps.specs.Plan.{step_row}
 use Rattle.svsm_steps.specs.Region.{MayAnswer, region_after, fault_at}
 use Rattle.svsm_steps.specs.DueFaults.{region_due}
 use Rattle.machine_region.specs.Micros.{hits}
@@ -20,4 +20,4 @@ pub record PerformsIn (struck : Option ℕ) (old : RegionState) (step : Step) (a
   -- it is struck where the step may fault there
   pub exact : (done : ℕ) → struck ≡ Some done → MayAnswer old step (Fault done) → answer ≡ Fault done
   -- where it is struck at the first operation of its row that is listed, a fault is the first that is due
-  pub listed : (numbers : Numbers) → struck ≡ first_listed 0 numbers (row old step) → fault_at answer ≡ region_due numbers old step
+  pub listed : (numbers : Numbers) → struck ≡ first_listed 0 numbers (step_row old step) → fault_at answer ≡ region_due numbers old step

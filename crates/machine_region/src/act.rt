@@ -1,7 +1,7 @@
 //! A step of a region.
 ghost use Rattle.std.specs.Prelude.{◌≡◌, true, ℕ, OnOk, OnErr, IfOk};
 ghost use Rattle.std.specs.Option.{option_map};
-ghost use Rattle.svsm_steps.specs.Plan.{row};
+ghost use Rattle.svsm_steps.specs.Plan.{step_row};
 ghost use Rattle.svsm_steps.specs.Place.{place_of};
 ghost use Rattle.svsm_steps.specs.Formed.{IsWellFormed};
 ghost use Rattle.machine_region.specs.Kinds.{is_of_region};
@@ -97,7 +97,7 @@ impl RegionTable {
         requires formed { IsWellFormed 512 step.now }
         requires here { place_of 512 step.now ≡ self.now.number }
         requires region { is_of_region step.now ≡ true }
-        ensures { result ≡ first_listed 0 (numbers_view operations.now) (row (region_view self.now) step.now) }
+        ensures { result ≡ first_listed 0 (numbers_view operations.now) (step_row (region_view self.now) step.now) }
     {
         let row = self.row_of(step);
         operations.first_listed(row.as_slice())

@@ -1,6 +1,6 @@
 //! The operations of a region, counted.
 ghost use Rattle.std.specs.Prelude.{◌≡◌, ◌≤◌, ◌++◌, ◌∷◌, [], map, length, OnOk, OnErr};
-ghost use Rattle.svsm_types.specs.Numbers.{is_listed};
+ghost use Rattle.svsm_types.specs.Numbers.{is_to_fault};
 ghost use Rattle.machine_region.specs.Micros.{micro_of};
 ghost use Rattle.machine_region.specs.Operations.{numbers_view, counted_by, first_listed};
 
@@ -38,7 +38,7 @@ impl Operations {
     }
 
     fn lists(&self, number: u64) -> bool
-        ensures { result ≡ is_listed (record { made = number; faulting = self.now.faulting.items }) }
+        ensures { result ≡ is_to_fault (record { made = number; faulting = self.now.faulting.items }) }
     {
         self.faulting.iter().any(|listed| *listed == number)
     }

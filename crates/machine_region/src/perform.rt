@@ -1,7 +1,7 @@
 //! One micro-operation.
 ghost use Rattle.std.specs.Prelude.{◌≡◌, ◌<◌, ◌≤◌, ◌%◌, length, map, true, false, None, Some};
 ghost use Rattle.svsm_types.specs.Pages.{index_of, page_of, region_of, changed_at};
-ghost use Rattle.svsm_types.specs.Hardware.{blank, split_by, word_faults, clear_faults, rmpadjust_faults, with_validity, with_vmsa, with_right, fresh_page, validated_pages, adjusted_pages, after_write, after_clear, after_pvalidate, after_rmpadjust, after_assign, after_guest_adjust};
+ghost use Rattle.svsm_types.specs.Hardware.{blank, large_after, word_faults, clear_faults, rmpadjust_faults, with_validity, with_vmsa, with_right, fresh_page, validated_pages, adjusted_pages, after_write, after_clear, after_pvalidate, after_rmpadjust, after_assign, after_guest_adjust};
 ghost use Rattle.svsm_steps.specs.Plan.{faults, after};
 ghost use Rattle.machine_region.specs.Micros.{micro_of, IsHere, ends, code_ends};
 ghost use Rattle.machine_region.specs.Views.{region_view, hw_view};
@@ -46,7 +46,7 @@ impl RegionTable {
     fn word_faults(&self, gpa: Gpa) -> bool
         ensures { result ≡ word_faults gpa.0 (hw_view self.now) }
     {
-        !is_usable(&self.page_at(gpa))
+        !is_usable(&self.page_holding(gpa))
     }
 
     #[tactic(auto, unfolding(svsm_types::specs::Hardware::clear_faults))]
@@ -97,7 +97,7 @@ impl RegionTable {
 
     // The 2M entry is split, where the operation is in 4K.
     fn split(&mut self, size: Size)
-        ensures view { region_view self.new ≡ record (region_view self.old) { hw = record (hw_view self.old) { large = split_by size self.old.large } } }
+        ensures view { region_view self.new ≡ record (region_view self.old) { hw = record (hw_view self.old) { large = large_after size self.old.large } } }
         ensures room { has_room self.new.words ≡ has_room self.old.words }
         ensures number { self.new.number ≡ self.old.number }
     {

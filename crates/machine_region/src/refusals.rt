@@ -1,6 +1,6 @@
 //! Which steps are refused.
 ghost use Rattle.std.specs.Prelude.{◌≡◌, ◌<◌, ◌≤◌, ◌*◌, ◌%◌, true, false, ◌&&◌, None, Some, if◌then◌else◌, ℕ};
-ghost use Rattle.svsm_steps.specs.Checks.{refusal, first_other, reach, reach_both, all_owned, all_recorded, none_recorded};
+ghost use Rattle.svsm_steps.specs.Checks.{refusal, first_other, is_open_to, is_open_to_both, all_owned, all_recorded, none_recorded};
 ghost use Rattle.svsm_steps.specs.Formed.{IsWellFormed};
 ghost use Rattle.svsm_types.specs.Hardware.{guest_may, guest_may_adjust};
 ghost use Rattle.machine_region.specs.Kinds.{is_of_region};
@@ -93,7 +93,7 @@ impl RegionTable {
             | Step::StoreNext { vmpl, gpa, .. }
             | Step::StoreEntry { vmpl, gpa, .. }
             | Step::SetAvail { vmpl, gpa, .. }
-            | Step::ClearCaa { vmpl, gpa } => unless(self.reach_both(vmpl, gpa), Answer::Refused),
+            | Step::ClearCaa { vmpl, gpa } => unless(self.is_open_to_both(vmpl, gpa), Answer::Refused),
             Step::LoadWord { vmpl, gpa } => unless(self.reads(vmpl, gpa), Answer::Refused),
             Step::Validate {
                 vmpl,

@@ -2,11 +2,11 @@
 ghost use Rattle.std.specs.Prelude.{◌≡◌, ◌<◌, ◌≤◌, length, map, not, find, false, slice_index_or};
 ghost use Rattle.std.specs.List.{list_all};
 ghost use Rattle.svsm_types.specs.Pages.{index_of, page_of, covered, changed_at};
-ghost use Rattle.svsm_types.specs.Hardware.{fits as fits_in, split_by, page_at, pvalidate_answer, validated_pages, guest_may, guest_may_adjust, all_usable};
-ghost use Rattle.svsm_steps.specs.Checks.{same_owner, all_owned, all_recorded, none_recorded, first_other, reach, reach_both};
+ghost use Rattle.svsm_types.specs.Hardware.{fits as fits_in, large_after, page_holding, pvalidate_answer, validated_pages, guest_may, guest_may_adjust, all_usable};
+ghost use Rattle.svsm_steps.specs.Checks.{same_owner, all_owned, all_recorded, none_recorded, first_other, is_open_to, is_open_to_both};
 ghost use Rattle.machine_region.specs.Views.{region_view, hw_view, row_in};
 
-use crate::pages::{allows, are_assigned, are_usable, are_validated, reaches, right_of};
+use crate::pages::{has_bit, are_assigned, are_usable, are_validated, reaches, right_of};
 use crate::region::RegionTable;
 use svsm_types::{Gpa, HwCode, Owner, Page, PageState, RmpRow, Size, Vmpl, page_of};
 
@@ -31,8 +31,8 @@ impl RegionTable {
         matches!(size, Size::Small) || self.large
     }
 
-    pub(crate) fn page_at(&self, gpa: Gpa) -> PageState
-        ensures { result ≡ page_at gpa.0 (hw_view self.now) }
+    pub(crate) fn page_holding(&self, gpa: Gpa) -> PageState
+        ensures { result ≡ page_holding gpa.0 (hw_view self.now) }
     {
         self.pages[index_of(page_of(gpa))]
     }
@@ -65,8 +65,8 @@ impl RegionTable {
         requires vmpl { (1 ≤ vmpl.0) × (vmpl.0 ≤ 3) }
         ensures { result ≡ guest_may bit vmpl.0 gpa.0 (hw_view self.now) }
     {
-        let page = self.page_at(gpa);
-        reaches(vmpl, &page) && allows(bit, right_of(&page, vmpl))
+        let page = self.page_holding(gpa);
+        reaches(vmpl, &page) && has_bit(bit, right_of(&page, vmpl))
     }
 
     pub(crate) fn guest_may_adjust(&self, vmpl: Vmpl, page: Page, target: u8, mask: u8) -> bool
@@ -81,29 +81,29 @@ impl RegionTable {
             && mask & right_of(&page, vmpl) == mask
     }
 
-    fn reach(&self, bit: u8, vmpl: Vmpl, gpa: Gpa) -> bool
+    fn is_open_to(&self, bit: u8, vmpl: Vmpl, gpa: Gpa) -> bool
         requires bit { 0 < bit }
         requires vmpl { (1 ≤ vmpl.0) × (vmpl.0 ≤ 3) }
-        ensures { result ≡ reach bit vmpl.0 gpa.0 (region_view self.now) }
+        ensures { result ≡ is_open_to bit vmpl.0 gpa.0 (region_view self.now) }
     {
         let index = index_of(page_of(gpa));
         is_of(self.owners[index], Owner::Guest)
             && self.recorded[index]
-            && allows(bit, right_of(&self.page_at(gpa), vmpl))
+            && has_bit(bit, right_of(&self.page_holding(gpa), vmpl))
     }
 
     pub(crate) fn reads(&self, vmpl: Vmpl, gpa: Gpa) -> bool
         requires vmpl { (1 ≤ vmpl.0) × (vmpl.0 ≤ 3) }
-        ensures { result ≡ reach 1 vmpl.0 gpa.0 (region_view self.now) }
+        ensures { result ≡ is_open_to 1 vmpl.0 gpa.0 (region_view self.now) }
     {
-        self.reach(1, vmpl, gpa)
+        self.is_open_to(1, vmpl, gpa)
     }
 
-    pub(crate) fn reach_both(&self, vmpl: Vmpl, gpa: Gpa) -> bool
+    pub(crate) fn is_open_to_both(&self, vmpl: Vmpl, gpa: Gpa) -> bool
         requires vmpl { (1 ≤ vmpl.0) × (vmpl.0 ≤ 3) }
-        ensures { result ≡ reach_both vmpl.0 gpa.0 (region_view self.now) }
+        ensures { result ≡ is_open_to_both vmpl.0 gpa.0 (region_view self.now) }
     {
-        self.reach(1, vmpl, gpa) && self.reach(2, vmpl, gpa)
+        self.is_open_to(1, vmpl, gpa) && self.is_open_to(2, vmpl, gpa)
     }
 
     pub(crate) fn all_are(&self, size: Size, page: Page, owner: Owner) -> bool
