@@ -1,5 +1,5 @@
 -- The regions that are made of an image.
-use Rattle.std.specs.Prelude.{◌≡◌, ℕ, ◌+◌, ◌*◌, ◌%◌, ◌≤◌, ◌<◌, ◌==◌, Bool, if◌then◌else◌, Option, None, Some, List, [], ◌∷◌, ◌++◌, map, slice_index_or, ⊤}
+use Rattle.std.specs.Prelude.{◌≡◌, ℕ, ◌+◌, ◌%◌, ◌≤◌, ◌<◌, ◌==◌, Bool, if◌then◌else◌, Option, None, Some, List, [], ◌∷◌, ◌++◌, map, slice_index_or, ⊤}
 use Rattle.std.specs.List.{list_any}
 use Rattle.svsm_types.specs.Pages.{page_of, region_of}
 use Rattle.svsm_types.specs.declared.image.Range.{Range}

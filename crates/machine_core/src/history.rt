@@ -75,7 +75,12 @@ impl Machine {
     }
 
     /// Carries out one entry of a history, at which this ticket is wanted. An error leaves the machine as it was.
-    pub(crate) fn follow(&mut self, _alloc: Global, want: u64, entry: &Entry) -> Result<(), PlayError>
+    pub(crate) fn follow(
+        &mut self,
+        _alloc: Global,
+        want: u64,
+        entry: &Entry,
+    ) -> Result<(), PlayError>
         requires { IsWellFormed (constants_of self.old).regions entry.now.step }
         ensures ok { OnOk result (Follows (constants_of self.old) want (state_of self.old) entry.now (state_of self.new)) }
         ensures err { IfErr result (λ error. FailsAt (constants_of self.old) want (state_of self.old) entry.now error) }

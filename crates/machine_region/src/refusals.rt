@@ -93,7 +93,10 @@ impl RegionTable {
             | Step::StoreNext { vmpl, gpa, .. }
             | Step::StoreEntry { vmpl, gpa, .. }
             | Step::SetAvail { vmpl, gpa, .. }
-            | Step::ClearCaa { vmpl, gpa } => unless(self.is_open_to_both(vmpl, gpa), Answer::Refused),
+            | Step::ClearCaa { vmpl, gpa } => unless(
+                self.is_open_to_both(vmpl, gpa),
+                Answer::Refused,
+            ),
             Step::LoadWord { vmpl, gpa } => unless(self.reads(vmpl, gpa), Answer::Refused),
             Step::Validate {
                 vmpl,
