@@ -107,7 +107,10 @@ fn a_stop_prints_its_line(rt: HostRuntime) -> Result<(), Fail> {
 #[test]
 fn a_line_that_the_system_does_not_give_has_a_status(rt: HostRuntime) -> Result<(), Fail> {
     let alloc = rt.alloc();
-    let kinds = [(io::ErrorKind::InvalidData, 9), (io::ErrorKind::OutOfMemory, 3)];
+    let kinds = [
+        (io::ErrorKind::InvalidData, 9),
+        (io::ErrorKind::OutOfMemory, 3),
+    ];
     for (kind, status) in kinds {
         let line = Err(io::Error::from(kind));
         let mut shelf = MemoryShelf::new(alloc, &[])?;
@@ -127,7 +130,13 @@ fn the_name_of_the_program_is_no_word_of_the_command(rt: HostRuntime) -> Result<
     let mut out = MemorySink::new(alloc, 0, &[])?;
     let mut err = MemorySink::new(alloc, 4096, &[])?;
     let status = run_program(
-        &rt, alloc, &Ok(line), &mut shelf, &mut out, &mut err, &OpenGate,
+        &rt,
+        alloc,
+        &Ok(line),
+        &mut shelf,
+        &mut out,
+        &mut err,
+        &OpenGate,
     );
     assert_eq!(rt; status, 2);
     assert_eq!(rt; err.bytes(), b"svsm_run: words\n".as_slice());
