@@ -1,8 +1,8 @@
 //! What the guest and the module may do at a page of a region.
 ghost use Rattle.std.specs.Prelude.{◌≡◌, ◌≤◌, ◌<◌, slice_index_or};
 ghost use Rattle.svsm_types.specs.Pages.{index_of};
-ghost use Rattle.svsm_types.specs.Hardware.{right_of, allows, is_usable, reaches, page_at, guest_may, word_faults};
-ghost use Rattle.svsm_steps.specs.Checks.{same_owner, reach, reach_both};
+ghost use Rattle.svsm_types.specs.Hardware.{right_of, has_bit, is_usable, reaches, page_holding, guest_may, word_faults};
+ghost use Rattle.svsm_steps.specs.Checks.{same_owner, is_open_to, is_open_to_both};
 ghost use Rattle.machine_core.specs.Views.{region_view};
 
 use crate::region::RegionTable;
@@ -28,9 +28,9 @@ fn right_of(page: &PageState, vmpl: Vmpl) -> u8
     page.rights[vmpl.0 as usize - 1].0
 }
 
-fn allows(bit: u8, right: u8) -> bool
+fn has_bit(bit: u8, right: u8) -> bool
     requires { 0 < bit }
-    ensures { result ≡ allows bit right }
+    ensures { result ≡ has_bit bit right }
 {
     right / bit % 2 == 1
 }
@@ -48,8 +48,8 @@ fn reaches(vmpl: Vmpl, page: &PageState) -> bool
     is_usable(page) && right_of(page, vmpl) != 0
 }
 
-fn page_at(region: &RegionTable, gpa: Gpa) -> PageState
-    ensures { result ≡ page_at gpa.0 (region_view region.now).hw }
+fn page_holding(region: &RegionTable, gpa: Gpa) -> PageState
+    ensures { result ≡ page_holding gpa.0 (region_view region.now).hw }
 {
     region.pages[index_of(page_of(gpa))]
 }
@@ -60,8 +60,8 @@ pub fn guest_may(region: &RegionTable, bit: u8, vmpl: Vmpl, gpa: Gpa) -> bool
     requires bit { 0 < bit }
     ensures { result ≡ guest_may bit vmpl.0 gpa.0 (region_view region.now).hw }
 {
-    let page = page_at(region, gpa);
-    reaches(vmpl, &page) && allows(bit, right_of(&page, vmpl))
+    let page = page_holding(region, gpa);
+    reaches(vmpl, &page) && has_bit(bit, right_of(&page, vmpl))
 }
 
 /// Whether an access of the module to the word at an address faults.
@@ -69,7 +69,7 @@ pub fn guest_may(region: &RegionTable, bit: u8, vmpl: Vmpl, gpa: Gpa) -> bool
 pub fn word_faults(region: &RegionTable, gpa: Gpa) -> bool
     ensures { result ≡ word_faults gpa.0 (region_view region.now).hw }
 {
-    !is_usable(&page_at(region, gpa))
+    !is_usable(&page_holding(region, gpa))
 }
 
 fn is_guests(owner: Owner) -> bool
@@ -78,21 +78,21 @@ fn is_guests(owner: Owner) -> bool
     owner == Owner::Guest
 }
 
-fn reach(region: &RegionTable, bit: u8, vmpl: Vmpl, gpa: Gpa) -> bool
+fn is_open_to(region: &RegionTable, bit: u8, vmpl: Vmpl, gpa: Gpa) -> bool
     requires vmpl { (1 ≤ vmpl.0) × (vmpl.0 ≤ 3) }
     requires bit { 0 < bit }
-    ensures { result ≡ reach bit vmpl.0 gpa.0 (region_view region.now) }
+    ensures { result ≡ is_open_to bit vmpl.0 gpa.0 (region_view region.now) }
 {
     let index = index_of(page_of(gpa));
     is_guests(region.owners[index])
         && region.recorded[index]
-        && allows(bit, right_of(&page_at(region, gpa), vmpl))
+        && has_bit(bit, right_of(&page_holding(region, gpa), vmpl))
 }
 
 /// Whether the module's table lets it read and write the word at an address for a VMPL.
-pub fn reach_both(region: &RegionTable, vmpl: Vmpl, gpa: Gpa) -> bool
+pub fn is_open_to_both(region: &RegionTable, vmpl: Vmpl, gpa: Gpa) -> bool
     requires { (1 ≤ vmpl.0) × (vmpl.0 ≤ 3) }
-    ensures { result ≡ reach_both vmpl.0 gpa.0 (region_view region.now) }
+    ensures { result ≡ is_open_to_both vmpl.0 gpa.0 (region_view region.now) }
 {
-    reach(region, READ, vmpl, gpa) && reach(region, WRITE, vmpl, gpa)
+    is_open_to(region, READ, vmpl, gpa) && is_open_to(region, WRITE, vmpl, gpa)
 }

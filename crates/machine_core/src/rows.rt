@@ -1,14 +1,14 @@
 //! The rows of the registry.
 ghost use Rattle.std.specs.Prelude.{◌≡◌, List, ℕ, find, map, None};
-ghost use Rattle.svsm_steps.specs.Registry.{same_state, of_apic_in, rows_answer, rows_after};
+ghost use Rattle.svsm_steps.specs.Registry.{same_row_state, of_apic_in, rows_answer, rows_after};
 ghost use Rattle.svsm_steps.specs.Region.{fault_at};
 ghost use Rattle.machine_core.specs.Moved.{moved};
 
 use svsm_steps::{Answer, Step};
 use svsm_types::{Row, RowState};
 
-fn same_state(a: RowState, b: RowState) -> bool
-    ensures { result ≡ same_state a b }
+fn same_row_state(a: RowState, b: RowState) -> bool
+    ensures { result ≡ same_row_state a b }
 {
     a == b
 }
@@ -16,7 +16,7 @@ fn same_state(a: RowState, b: RowState) -> bool
 fn of_apic_in(state: RowState, apic: u32, row: &Row) -> bool
     ensures { result ≡ of_apic_in state apic row.now }
 {
-    row.apic == apic && same_state(row.state, state)
+    row.apic == apic && same_row_state(row.state, state)
 }
 
 fn find_row(rows: &[Row], state: RowState, apic: u32) -> Option<Row>

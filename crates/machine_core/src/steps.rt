@@ -3,7 +3,7 @@ ghost use Rattle.std.specs.Prelude.{◌≡◌, ◌≤◌, IfOk, OnErr};
 ghost use Rattle.machine_core.specs.Views.{region_view};
 ghost use Rattle.machine_core.specs.Performed.{PerformsIn};
 
-use crate::access::{WRITE, guest_may, reach_both, word_faults};
+use crate::access::{WRITE, guest_may, is_open_to_both, word_faults};
 use crate::cells::{set_word, word_at};
 use crate::region::RegionTable;
 use crate::words::with_pending;
@@ -30,7 +30,7 @@ pub fn take(region: &mut RegionTable, vmpl: Vmpl, gpa: Gpa) -> Result<Answer, No
     ensures ok { IfOk result (λ answer. PerformsIn (region_view region.old) (Step.TakePending vmpl gpa) answer (region_view region.new)) }
     ensures err { OnErr result (region_view region.new ≡ region_view region.old) }
 {
-    if !reach_both(region, vmpl, gpa) {
+    if !is_open_to_both(region, vmpl, gpa) {
         return Ok(Answer::Refused);
     }
     if word_faults(region, gpa) {

@@ -18,7 +18,8 @@ use Rattle.svsm_steps.specs.declared.outcome.CoreEnd.TheVariants as ends
 use Rattle.svsm_steps.specs.Formed.{is_listed}
 use Rattle.svsm_calls.specs.Calls.{exit_call}
 use Rattle.svsm_calls.specs.Dialogue.{◌gives◌}
-use Rattle.svsm_calls.specs.Events.{Made, made_of, Event, started, sent}
+use Rattle.svsm_steps.specs.Made.{Made, made_of}
+use Rattle.svsm_calls.specs.Events.{Event, started, sent}
 use Rattle.svsm_calls.specs.World.{Scripted, world_after, AreGiven}
 use Rattle.svsm_calls.specs.Waves.{is_among}
 use Rattle.svsm_calls.specs.CoreRun.{caller_after, run_value, IsRunRequest, right, ArePieces, none, one_more, IsCoreRun, done, faulted}

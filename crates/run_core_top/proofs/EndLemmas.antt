@@ -11,7 +11,8 @@ use Rattle.svsm_steps.specs.declared.outcome.Outcome.{Outcome}
 use Rattle.svsm_steps.specs.declared.outcome.CoreEnd.{CoreEnd}
 use Rattle.svsm_steps.specs.declared.outcome.CoreEnd.TheVariants as ends
 use Rattle.svsm_steps.specs.declared.outcome.CoreRun.{CoreRun}
-use Rattle.svsm_calls.specs.Events.{Made, made_of, Event, sent}
+use Rattle.svsm_steps.specs.Made.{Made, made_of}
+use Rattle.svsm_calls.specs.Events.{Event, sent}
 use Rattle.svsm_calls.specs.World.{Scripted, fresh_world, world_after, AreGiven}
 use Rattle.svsm_calls.specs.CoreRun.{IsCallCut, IsCutOff, run_value, is_run_answer, IsCoreRun, done, faulted, host}
 use Rattle.svsm_calls.specs.Run.{caller_of}

@@ -5,9 +5,9 @@ use Rattle.std.specs.List.{list_any}
 use Rattle.std.proofs.lemmas.Bool.{and_parts, eqb-true, eqb-false, cases_Bool}
 use Rattle.std.proofs.lemmas.List.{get_or-replicate, get_or-set_other}
 use Rattle.std.proofs.lemmas.List.FromFn.{get_or-map-range_with_len}
-use Rattle.svsm_types.specs.Numbers.{Numbers, is_listed, counted}
+use Rattle.svsm_types.specs.Numbers.{Numbers, is_to_fault, counted}
 use Rattle.svsm_types.specs.Pages.{page_of, index_of}
-use Rattle.svsm_types.specs.Hardware.{is_usable, allows, right_of, page_at, blank, fresh_page, word_faults}
+use Rattle.svsm_types.specs.Hardware.{is_usable, has_bit, right_of, page_holding, blank, fresh_page, word_faults}
 use Rattle.svsm_types.specs.declared.address.Gpa.{Gpa}
 use Rattle.svsm_types.specs.declared.image.Image.{Image}
 use Rattle.svsm_types.specs.declared.image.Range.{Range}
@@ -25,13 +25,13 @@ use Rattle.svsm_steps.specs.declared.answer.Answer.TheVariants.{Denied, Refused}
 use Rattle.svsm_steps.specs.declared.entry.Entry.{Entry}
 use Rattle.svsm_steps.specs.State.{State, Constants, RegionState}
 use Rattle.svsm_steps.specs.Place.{place_of}
-use Rattle.svsm_steps.specs.Checks.{same_owner, reach, reach_both, refusal, first_failing}
-use Rattle.svsm_steps.specs.Plan.{Micro, read, write, guest_write, assign, after, after_all, row, goes_on, ended, plan}
+use Rattle.svsm_steps.specs.Checks.{same_owner, is_open_to, is_open_to_both, refusal, first_failing}
+use Rattle.svsm_steps.specs.Plan.{Micro, read, write, guest_write, assign, after, after_all, step_row, goes_on, ended, plan}
 use Rattle.svsm_steps.specs.Region.{fault_at, performed, made_if, region_after}
 use Rattle.svsm_steps.specs.DueFaults.{due_if, region_due, due_at, numbers_after, FollowsPlatform}
 use Rattle.svsm_steps.specs.Machine.{Kind, region, pool, registry, kind, next_by, next, own_region}
 use Rattle.svsm_steps.specs.Image.{is_valid, is_assigned, owner_in, recorded_in, page_in, range_of, region_in, no_region, regions_in, image_state, booted, booted_numbers, constants_of}
-use Rattle.svsm_calls.specs.Events.{Made, made_of}
+use Rattle.svsm_steps.specs.Made.{Made, made_of}
 use Rattle.machine_core.specs.Built.{IsBuilt}
 use Rattle.run_core_top.specs.Base.{base}
 use Rattle.run_core_top.specs.Recorded.{AreBuilt}
@@ -102,7 +102,7 @@ ended_on [] r on = tt
 ended_on (micro ∷ micros) r on = (on.0, on_if (goes_on micro r) (ended micros (after micro r)) (ended_on micros (after micro r) on.1))
 
 -- the row of a step that the machine performs
-row_on : (r : RegionState) (step : Step) → IsBuilt step → AreOnWords (row r step)
+row_on : (r : RegionState) (step : Step) → IsBuilt step → AreOnWords (step_row r step)
 row_on r (GuestPend vmpl gpa) built = (tt, tt)
 row_on r (TakePending vmpl gpa) built = (tt, (tt, tt))
 row_on r (Enter apic) built = tt
@@ -120,7 +120,7 @@ ready_by false new old a b = b
 ready_region : (r : RegionState) (step : Step) (answer : Answer) → IsBuilt step → IsReady r → IsReady (region_after r step answer)
 ready_region r step answer built ready =
     ready_after_all (made_if (refusal r step) (plan r step) answer) r
-    (made_on (refusal r step) (plan r step) answer (ended_on (row r step) r (row_on r step built))) ready
+    (made_on (refusal r step) (plan r step) answer (ended_on (step_row r step) r (row_on r step built))) ready
 
 -- the state after a step
 ready_next : (kd : Kind) (constants : Constants) (state : State) (step : Step) (answer : Answer) → IsBuilt step → AreReady state
@@ -135,22 +135,22 @@ ready_next registry constants state step answer built ready = ready
 -- NO OPERATION IS DUE TO FAULT
 
 -- no number is listed
-not_listed : (numbers : Numbers) → numbers.faulting ≡ [] → is_listed numbers ≡ false
+not_listed : (numbers : Numbers) → numbers.faulting ≡ [] → is_to_fault numbers ≡ false
 not_listed numbers quiet = ap (list_any (λ number. number == numbers.made)) quiet
 
 -- a page that may be read is the guest's and recorded
-reached : (bit vmpl address : ℕ) (r : RegionState) → reach bit vmpl address r ≡ true → IsReady r → is_usable (page_at address r.hw) ≡ true
+reached : (bit vmpl address : ℕ) (r : RegionState) → is_open_to bit vmpl address r ≡ true → IsReady r → is_usable (page_holding address r.hw) ≡ true
 reached bit vmpl address r is ready =
     let low : index_of (page_of address) < 512 = omega arith in
-    let parts = and_parts (same_owner (slice_index_or r.owner (index_of (page_of address)) Guest) Guest) (slice_index_or r.recorded (index_of (page_of address)) false && allows bit (right_of vmpl (page_at address r.hw))) is in
-    let more = and_parts (slice_index_or r.recorded (index_of (page_of address)) false) (allows bit (right_of vmpl (page_at address r.hw))) parts.1 in
+    let parts = and_parts (same_owner (slice_index_or r.owner (index_of (page_of address)) Guest) Guest) (slice_index_or r.recorded (index_of (page_of address)) false && has_bit bit (right_of vmpl (page_holding address r.hw))) is in
+    let more = and_parts (slice_index_or r.recorded (index_of (page_of address)) false) (has_bit bit (right_of vmpl (page_holding address r.hw))) parts.1 in
     ready (index_of (page_of address)) low parts.0 more.0
 
 -- and its words do not fault
-words_hold : (vmpl address : ℕ) (r : RegionState) → IsReady r → reach_both vmpl address r ≡ true → word_faults address r.hw ≡ false
+words_hold : (vmpl address : ℕ) (r : RegionState) → IsReady r → is_open_to_both vmpl address r ≡ true → word_faults address r.hw ≡ false
 unfolding word_faults
 words_hold vmpl address r ready is =
-    ap not (reached 1 vmpl address r (and_parts (reach 1 vmpl address r) (reach 2 vmpl address r) is).0 ready)
+    ap not (reached 1 vmpl address r (and_parts (is_open_to 1 vmpl address r) (is_open_to 2 vmpl address r) is).0 ready)
 
 -- the guest's write has no operation of the platform
 pend_not_due : (b : Bool) (numbers : Numbers) (r : RegionState) (vmpl : Vmpl) (gpa : Gpa)
@@ -163,8 +163,8 @@ take_not_due : (b : Bool) (numbers : Numbers) (r : RegionState) (vmpl : Vmpl) (g
     → (b ≡ true → word_faults gpa.0 r.hw ≡ false)
     → due_if (first_failing ((b, Refused) ∷ [])) numbers r (TakePending vmpl gpa) ≡ None
 take_not_due true numbers r vmpl gpa quiet holds =
-    let first : is_listed numbers ≡ false = not_listed numbers quiet in
-    let second : is_listed (counted numbers) ≡ false = not_listed (counted numbers) quiet in
+    let first : is_to_fault numbers ≡ false = not_listed numbers quiet in
+    let second : is_to_fault (counted numbers) ≡ false = not_listed (counted numbers) quiet in
     let calm : word_faults gpa.0 r.hw ≡ false = holds refl in
     rw (calm, first, second, calm) refl
 take_not_due false numbers r vmpl gpa quiet holds = refl
@@ -174,7 +174,7 @@ region_not_due : (numbers : Numbers) (r : RegionState) (step : Step) → IsBuilt
     → region_due numbers r step ≡ None
 region_not_due numbers r (GuestPend vmpl gpa) built quiet ready = pend_not_due _ numbers r vmpl gpa
 region_not_due numbers r (TakePending vmpl gpa) built quiet ready =
-    take_not_due (reach_both vmpl.0 gpa.0 r) numbers r vmpl gpa quiet (words_hold vmpl.0 gpa.0 r ready)
+    take_not_due (is_open_to_both vmpl.0 gpa.0 r) numbers r vmpl gpa quiet (words_hold vmpl.0 gpa.0 r ready)
 region_not_due numbers r (Enter apic) built quiet ready = refl
 region_not_due numbers r (Leave apic) built quiet ready = refl
 region_not_due numbers r _ built quiet ready = absurd built

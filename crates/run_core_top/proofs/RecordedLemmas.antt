@@ -15,7 +15,7 @@ use Rattle.svsm_steps.specs.Formed.{IsWellFormed}
 use Rattle.svsm_steps.specs.Machine.{Kind, region, pool, registry, kind, next, own_region, state_after}
 use Rattle.svsm_steps.specs.DueFaults.{begun, counted_all, numbers_if, numbers_after}
 use Rattle.svsm_steps.specs.Image.{constants_of, booted, booted_numbers}
-use Rattle.svsm_laws.specs.Runs.{numbers_after_all}
+use Rattle.svsm_steps.specs.NextEntry.{numbers_after_all}
 use Rattle.svsm_laws.proofs.Runs.{state_after-snoc, run-snoc, follows-snoc, well_formed-snoc}
 use Rattle.machine_core.specs.declared.machine.Machine.{Machine}
 use Rattle.machine_core.specs.Built.{IsBuilt}

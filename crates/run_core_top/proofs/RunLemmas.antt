@@ -10,7 +10,7 @@ use Rattle.svsm_types.specs.declared.vcpu.RowState.TheVariants.{Ready, Reserved,
 use Rattle.svsm_steps.specs.declared.entry.Entry.{Entry}
 use Rattle.svsm_steps.specs.declared.outcome.CoreRun.{CoreRun}
 use Rattle.svsm_steps.specs.declared.outcome.CoreEnd.TheVariants.{Unstarted}
-use Rattle.svsm_steps.specs.Registry.{same_state}
+use Rattle.svsm_steps.specs.Registry.{same_row_state}
 use Rattle.svsm_steps.specs.State.{State, row_at}
 use Rattle.svsm_steps.specs.Partition.{of_core}
 use Rattle.svsm_steps.specs.Machine.{state_after}
@@ -18,7 +18,7 @@ use Rattle.svsm_steps.specs.Image.{constants_of, booted}
 use Rattle.svsm_steps.specs.Safe.{AlwaysSafe}
 use Rattle.svsm_laws.proofs.Booted.{booted_is_shut}
 use Rattle.svsm_laws.proofs.Ownership.{keeps_ownership}
-use Rattle.svsm_calls.specs.Events.{made_of}
+use Rattle.svsm_steps.specs.Made.{made_of}
 use Rattle.svsm_calls.specs.World.{fresh_world}
 use Rattle.svsm_calls.specs.Waves.{is_among, ready_cores, AreWaves, none, one_more}
 use Rattle.svsm_calls.specs.Run.{IsRun}
@@ -52,7 +52,7 @@ all_own (entry ∷ entries) own =
 
 -- the waves
 
-nobody_ready : (state : RowState) → same_state state Ready ≡ false → ready_cores base (0 ∷ []) (seat state ∷ []) ≡ []
+nobody_ready : (state : RowState) → same_row_state state Ready ≡ false → ready_cores base (0 ∷ []) (seat state ∷ []) ≡ []
 nobody_ready Reserved h = refl
 nobody_ready Ready h = cc
 nobody_ready Entered h = refl

@@ -9,7 +9,7 @@ use Rattle.svsm_types.specs.declared.platform.HwState.TheVariants.{Assigned, Val
 use Rattle.svsm_types.specs.declared.vcpu.Row.{Row}
 use Rattle.svsm_types.specs.declared.vcpu.RowState.{RowState}
 use Rattle.svsm_types.specs.declared.vcpu.RowState.TheVariants.{Ready}
-use Rattle.svsm_steps.specs.Registry.{same_state}
+use Rattle.svsm_steps.specs.Registry.{same_row_state}
 
 abbrev pub range : ℕ → ℕ → Owner → HwState → ℕ → Range
 range first count owner state rights = record { first = record { 0 = first }; count = count; owner = owner; state = state; rights = rights }
@@ -47,4 +47,4 @@ seat state = record { apic = 0; page = record { 0 = 0x10 }; caa = record { 0 = 0
 pub record IsTaken (rows : List Row) : Type 0 where
   pub state : RowState
   pub only : rows ≡ seat state ∷ []
-  pub taken : same_state state Ready ≡ false
+  pub taken : same_row_state state Ready ≡ false

@@ -7,7 +7,8 @@ use Rattle.svsm_steps.specs.declared.call.Caller.{Caller}
 use Rattle.svsm_steps.specs.declared.entry.Entry.{Entry}
 use Rattle.svsm_steps.specs.declared.outcome.Outcome.{Outcome}
 use Rattle.svsm_steps.specs.declared.outcome.CoreEnd.{CoreEnd}
-use Rattle.svsm_calls.specs.Events.{made_of, Event}
+use Rattle.svsm_steps.specs.Made.{made_of}
+use Rattle.svsm_calls.specs.Events.{Event}
 use Rattle.svsm_calls.specs.World.{Scripted, AreGiven}
 use Rattle.svsm_calls.specs.CoreRun.{caller_after, ArePieces, IsCoreRun}
 use Rattle.run_core_top.specs.declared.served.Served.{Served}

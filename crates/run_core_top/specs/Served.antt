@@ -11,7 +11,8 @@ use Rattle.svsm_steps.specs.declared.call.Do.{Do}
 use Rattle.svsm_steps.specs.declared.entry.Entry.{Entry}
 use Rattle.svsm_steps.specs.Formed.{is_listed}
 use Rattle.svsm_calls.specs.Dialogue.{◌gives◌}
-use Rattle.svsm_calls.specs.Events.{made_of, started}
+use Rattle.svsm_steps.specs.Made.{made_of}
+use Rattle.svsm_calls.specs.Events.{started}
 use Rattle.svsm_calls.specs.Sequences.{IsExit, takes_pending}
 use Rattle.svsm_calls.specs.CoreRun.{call_outcome, IsPiece, IsCutOff}
 use Rattle.svsm_calls.specs.Waves.{is_among}

@@ -13,7 +13,7 @@ use Rattle.svsm_steps.specs.declared.entry.Entry.{Entry}
 use Rattle.svsm_steps.specs.declared.outcome.Outcome.{Outcome}
 use Rattle.svsm_steps.specs.declared.outcome.CoreEnd.{CoreEnd}
 use Rattle.svsm_steps.specs.declared.outcome.CoreRun.{CoreRun}
-use Rattle.svsm_calls.specs.Events.{Made, made_by}
+use Rattle.svsm_steps.specs.Made.{Made, made_by}
 use Rattle.svsm_calls.specs.CoreRun.{IsCoreRun}
 use Rattle.svsm_calls.specs.Waves.{is_among, enters, IsWave, AreWaves, none, one_more}
 use Rattle.svsm_calls.specs.Run.{caller_of, IsStarted, IsCore, script_of, AreCores, IsRun}

@@ -18,7 +18,8 @@ use Rattle.svsm_steps.specs.Machine.{IsRunFrom}
 use Rattle.svsm_steps.specs.DueFaults.{FollowsPlatform}
 use Rattle.svsm_steps.specs.Partition.{of_core}
 use Rattle.svsm_steps.specs.Image.{constants_of, booted, booted_numbers}
-use Rattle.svsm_calls.specs.Events.{made_of, made_by, Event, Happen}
+use Rattle.svsm_steps.specs.Made.{made_of, made_by}
+use Rattle.svsm_calls.specs.Events.{Event, Happen}
 use Rattle.svsm_calls.specs.CoreRun.{IsCoreRun}
 use Rattle.svsm_calls.specs.World.{Scripted, fresh_world, world_after, AreGiven, Gives}
 use Rattle.svsm_calls.specs.Waves.{is_among, enters, next_wave, IsWave, none, one_more}

@@ -15,7 +15,8 @@ use Rattle.svsm_steps.specs.declared.outcome.CoreRun.{CoreRun}
 use Rattle.svsm_steps.specs.Machine.{IsRunFrom}
 use Rattle.svsm_steps.specs.DueFaults.{FollowsPlatform}
 use Rattle.svsm_steps.specs.Image.{constants_of, booted, booted_numbers}
-use Rattle.svsm_calls.specs.Events.{Made, made_by, Event}
+use Rattle.svsm_steps.specs.Made.{Made, made_by}
+use Rattle.svsm_calls.specs.Events.{Event}
 use Rattle.svsm_calls.specs.CoreRun.{IsCoreRun}
 use Rattle.svsm_calls.specs.World.{fresh_world, AreGiven}
 use Rattle.svsm_calls.specs.Waves.{is_among, apic_of, enters, next_wave, AreWaves}

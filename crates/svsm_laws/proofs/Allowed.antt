@@ -2,7 +2,7 @@
 use Rattle.std.proofs.Common.{◌≡◌, ℕ, ◌+◌, Bool, true, false, not, List, [], ◌∷◌, refl, sym, ap, ◌∙◌, subst, ◌⊎◌, inl, inr, ⊎_elim, Option, None, Some, IsTrue}
 use Rattle.std.specs.Prelude.{if◌then◌else◌, ◌&&◌, ◌||◌, MatchOption, is_none}
 use Rattle.std.proofs.lemmas.Bool.{and_parts}
-use Rattle.svsm_types.specs.Numbers.{Numbers, is_listed, counted}
+use Rattle.svsm_types.specs.Numbers.{Numbers, is_to_fault, counted}
 use Rattle.svsm_steps.specs.declared.step.Step.{Step}
 use Rattle.svsm_steps.specs.declared.answer.Answer.{Answer}
 use Rattle.svsm_steps.specs.State.{State, Constants, RegionState}
@@ -11,8 +11,8 @@ use Rattle.svsm_steps.specs.Plan.{Micro, is_platform, faults, after, plan}
 use Rattle.svsm_steps.specs.Region.{AnswersPlan, fault_at, answer_of, none_faults, is_platform_at}
 use Rattle.svsm_steps.specs.Machine.{Kind, region, pool, registry, kind, own_region, MayGive}
 use Rattle.svsm_steps.specs.DueFaults.{first_due, due_if}
-use Rattle.svsm_laws.specs.Answers.{answer_by, due_answer}
-use Rattle.svsm_laws.specs.Allowed.{unlisted, table_answer, is_fault_of, AnswersAreDecided}
+use Rattle.svsm_steps.specs.OneAnswer.{answer_by, due_answer, unlisted, table_answer, is_fault_of}
+use Rattle.svsm_laws.specs.Allowed.{AnswersAreDecided}
 use Rattle.svsm_laws.proofs.Answers.{given}
 
 -- where nothing is listed, and nothing faults by the table, nothing is due
@@ -28,8 +28,8 @@ undue_by k numbers micro micros r true false false e h later none = later (count
 undue_by k numbers micro micros r true false true e h later none = cc
 undue_by k numbers micro micros r true true listed e h later none = cc
 
-not_listed : (numbers : Numbers) → numbers.faulting ≡ [] → is_listed numbers ≡ false
-not_listed numbers e = ap (λ (all : List ℕ). is_listed (record numbers { faulting = all })) e
+not_listed : (numbers : Numbers) → numbers.faulting ≡ [] → is_to_fault numbers ≡ false
+not_listed numbers e = ap (λ (all : List ℕ). is_to_fault (record numbers { faulting = all })) e
 
 none_undue : (k : ℕ) (numbers : Numbers) (micros : List Micro) (r : RegionState) → numbers.faulting ≡ []
     → none_faults micros r ≡ true
@@ -37,7 +37,7 @@ none_undue : (k : ℕ) (numbers : Numbers) (micros : List Micro) (r : RegionStat
 none_undue k numbers [] r e h = refl
 none_undue k numbers (micro ∷ micros) r e h =
     let both = and_parts (not (faults micro r)) (none_faults micros (after micro r)) h in
-    undue_by k numbers micro micros r (is_platform micro) (faults micro r) (is_listed numbers) (not_listed numbers e) both.0
+    undue_by k numbers micro micros r (is_platform micro) (faults micro r) (is_to_fault numbers) (not_listed numbers e) both.0
     (λ others none. none_undue (k + 1) others micros (after micro r) none both.1) e
 
 -- a region's step

@@ -4,7 +4,7 @@ use Rattle.std.specs.Prelude.{if◌then◌else◌, ◌&&◌, ◌||◌, MatchOpti
 use Rattle.std.specs.List.{list_all}
 use Rattle.std.specs.Option.{option_map_or}
 use Rattle.std.proofs.lemmas.Bool.{and_parts}
-use Rattle.svsm_types.specs.Numbers.{Numbers, is_listed, counted}
+use Rattle.svsm_types.specs.Numbers.{Numbers, is_to_fault, counted}
 use Rattle.svsm_types.specs.Hardware.{pvalidate_answer}
 use Rattle.svsm_types.specs.declared.platform.HwCode.{HwCode}
 use Rattle.svsm_types.specs.declared.platform.HwCode.TheVariants.{Changed as hw_changed, Unchanged as hw_unchanged, Fail as hw_fail}
@@ -16,13 +16,14 @@ use Rattle.svsm_steps.specs.declared.answer.Answer.TheVariants.{Done, Word, Deni
 use Rattle.svsm_steps.specs.Place.{place_of}
 use Rattle.svsm_steps.specs.State.{State, Constants, RegionState, Block as PoolBlock}
 use Rattle.svsm_steps.specs.Checks.{checks, first_failing, refusal}
-use Rattle.svsm_steps.specs.Plan.{Micro, read, write, clear, pvalidate, rmpadjust, set_owner, set_recorded, guest_write, guest_adjust, assign, is_platform, faults, after, row, plan, vmsa_holds}
+use Rattle.svsm_steps.specs.Plan.{Micro, read, write, clear, pvalidate, rmpadjust, set_owner, set_recorded, guest_write, guest_adjust, assign, is_platform, faults, after, step_row, plan, vmsa_holds}
 use Rattle.svsm_steps.specs.Region.{AnswersPlan, fault_at, answer_of, answer_from, code_answer, row_answer, none_faults, is_platform_at}
 use Rattle.svsm_steps.specs.Pool.{pool_answer, last_block}
 use Rattle.svsm_steps.specs.Registry.{rows_answer, rows_refusal, rows_checks, rows_done_answer, seen, of_apic_in}
 use Rattle.svsm_steps.specs.Machine.{Kind, region, pool, registry, kind, own_region, MayGive}
 use Rattle.svsm_steps.specs.DueFaults.{due_at, due_if, first_due, is_due}
-use Rattle.svsm_laws.specs.Answers.{StateIsDetermined, answer_by, due_answer, AnswerIsDetermined, AnswerExists}
+use Rattle.svsm_laws.specs.Answers.{StateIsDetermined, AnswerIsDetermined, AnswerExists}
+use Rattle.svsm_steps.specs.OneAnswer.{answer_by, due_answer}
 
 pub state_is_determined : StateIsDetermined
 state_is_determined constants old entry new other h k = h.1 ∙ sym k.1
@@ -118,9 +119,9 @@ rows_checks_no_fault : (apics : List ℕ) (rows : List Row) (step : Step)
 rows_checks_no_fault apics rows (Reserve apic page caa) = refl
 rows_checks_no_fault apics rows _ = refl
 
-seen_no_fault : (row : Option Row) → fault_at (seen row) ≡ None
+seen_no_fault : (step_row : Option Row) → fault_at (seen step_row) ≡ None
 seen_no_fault None = refl
-seen_no_fault (Some row) = refl
+seen_no_fault (Some step_row) = refl
 
 rows_done_no_fault : (rows : List Row) (step : Step) → fault_at (rows_done_answer rows step) ≡ None
 rows_done_no_fault rows (Enter apic) = seen_no_fault (find (of_apic_in _ apic) rows)
@@ -240,7 +241,7 @@ none_by : (k : ℕ) (numbers : Numbers) (micro : Micro) (micros : List Micro) (r
     → not (faults micro r) && none_faults micros (after micro r) ≡ true
 none_by k numbers micro micros r true true e f later g = cc
 none_by k numbers micro micros r true false e f later g =
-    sound (faults micro r) (none_faults micros (after micro r)) (not_due (faults micro r) (is_listed numbers) f)
+    sound (faults micro r) (none_faults micros (after micro r)) (not_due (faults micro r) (is_to_fault numbers) f)
     (later (counted numbers) g)
 none_by k numbers micro micros r false d e f later g =
     sound (faults micro r) (none_faults micros (after micro r)) (own_no_fault micro r e) (later numbers g)
@@ -259,7 +260,7 @@ planned : (numbers : Numbers) (r : RegionState) (step : Step) (due : Option ℕ)
     × (fault_at (answer_by None due (answer_of r step)) ≡ due)
 planned numbers r step None e =
     let still : fault_at (answer_of r step) ≡ None =
-    from_no_fault (row r step) r (row_answer r step) (row_no_fault r step) in (
+    from_no_fault (step_row r step) r (row_answer r step) (row_no_fault r step) in (
       subst (λ (o : Option ℕ). AnswersPlan r step (answer_of r step) o) (sym still)
           (due_none 0 numbers (plan r step) r e, refl),
       still,

@@ -12,7 +12,8 @@ use Rattle.svsm_types.specs.declared.vcpu.Row.{Row}
 use Rattle.svsm_steps.specs.State.{State, Block}
 use Rattle.svsm_steps.specs.Plan.{assign}
 use Rattle.svsm_steps.specs.Image.{pages_of, block_of, blocks_in, is_held_large, is_pools, row_of, image_state, accept, after_at, accepted, accept_entries}
-use Rattle.svsm_laws.specs.Mapped.{AreBlocks, AreRows, IsMapped, IsSeated, AreSeated, BootedIsMapped}
+use Rattle.svsm_steps.specs.Mapped.{AreBlocks, AreRows, IsMapped, IsSeated, AreSeated}
+use Rattle.svsm_laws.specs.Mapped.{BootedIsMapped}
 
 -- blocks
 

@@ -3,7 +3,7 @@ use Rattle.std.proofs.Common.{◌≡◌, ℕ, ◌<◌, Bool, true, false, List, 
 use Rattle.std.specs.Prelude.{if◌then◌else◌, ◌==◌, map}
 use Rattle.std.proofs.lemmas.List.{get_or-map}
 use Rattle.svsm_types.specs.Pages.{index_of, changed_at}
-use Rattle.svsm_types.specs.Hardware.{blank, fresh_page, with_right, with_vmsa, with_validity, split_by, is_large, does_change, pvalidate_answer, validated_pages, adjusted_pages}
+use Rattle.svsm_types.specs.Hardware.{blank, fresh_page, with_right, with_vmsa, with_validity, large_after, is_large, does_change, pvalidate_answer, validated_pages, adjusted_pages}
 use Rattle.svsm_types.specs.declared.platform.PageState.{PageState}
 use Rattle.svsm_types.specs.declared.platform.Size.{Size}
 use Rattle.svsm_types.specs.declared.platform.Size.TheVariants.{Small, Large}
@@ -12,7 +12,7 @@ use Rattle.svsm_steps.specs.declared.answer.Answer.{Answer}
 use Rattle.svsm_steps.specs.Place.{place_of}
 use Rattle.svsm_steps.specs.State.{State, Constants, RegionState, IsSized, AreSized}
 use Rattle.svsm_steps.specs.Plan.{Micro, read, write, clear, pvalidate, rmpadjust, set_owner, set_recorded, guest_write, guest_adjust, assign, after, after_all}
-use Rattle.svsm_steps.specs.Region.{made, region_after}
+use Rattle.svsm_steps.specs.Region.{micros_made, region_after}
 use Rattle.svsm_steps.specs.Machine.{Kind, region, pool, registry, kind, own_region, next_by, next}
 use Rattle.svsm_laws.specs.Refusals.{IsCommon, AreCommon, StaysCommon}
 use Rattle.svsm_laws.proofs.Cells.{sized-after}
@@ -36,17 +36,17 @@ alike_fresh page pages full index other low less =
 -- a change in 4K splits, and one in 2M is of all pages
 changed_common : (size : Size) (index : ℕ) (change : PageState → PageState) (large : Bool) (pages : List PageState)
     → length pages ≡ 512
-    → (large ≡ true → AreAlike pages) → split_by size large ≡ true → AreAlike (changed_at blank size index change pages)
+    → (large ≡ true → AreAlike pages) → large_after size large ≡ true → AreAlike (changed_at blank size index change pages)
 changed_common Small index change large pages full h e = cc
 changed_common Large index change large pages full h e = alike_map change pages full (h e)
 
 kept_common : (size : Size) (large : Bool) (pages : List PageState) → (large ≡ true → AreAlike pages)
-    → split_by size large ≡ true → AreAlike pages
+    → large_after size large ≡ true → AreAlike pages
 kept_common Small large pages h e = cc
 kept_common Large large pages h e = h e
 
 validated_common : (changes : Bool) (size : Size) (index : ℕ) (on large : Bool) (pages : List PageState) → length pages ≡ 512
-    → (large ≡ true → AreAlike pages) → split_by size large ≡ true
+    → (large ≡ true → AreAlike pages) → large_after size large ≡ true
     → AreAlike (if changes then changed_at blank size index (with_validity on) pages else pages)
 validated_common true size index on large pages full h e = changed_common size index (with_validity on) large pages full h e
 validated_common false size index on large pages full h e = kept_common size large pages h e
@@ -81,13 +81,13 @@ pub common_by : (b : Bool) (r old : RegionState) → IsCommon r → IsCommon old
 common_by true r old h k = h
 common_by false r old h k = k
 
-next_common : (kd : Kind) (constants : Constants) (state : State) (step : Step) (answer : Answer) → AreSized state
+pub next_common : (kd : Kind) (constants : Constants) (state : State) (step : Step) (answer : Answer) → AreSized state
     → AreCommon state
     → AreCommon (next_by kd constants state step answer)
 next_common region constants state step answer z h = λ number.
     common_by (place_of constants.regions step == number) (region_after (own_region constants step state) step answer)
     (state.regions number)
-    (common_all (made (own_region constants step state) step answer) (own_region constants step state)
+    (common_all (micros_made (own_region constants step state) step answer) (own_region constants step state)
     (z (place_of constants.regions step)) (h (place_of constants.regions step)))
     (h number)
 next_common pool constants state step answer z h = h

@@ -13,8 +13,9 @@ use Rattle.svsm_steps.specs.Machine.{Kind, region, pool, registry, kind, next}
 use Rattle.svsm_steps.specs.DueFaults.{due_at, numbers_after, FollowsPlatform}
 use Rattle.svsm_steps.specs.Formed.{IsWellFormed, AreWellFormed}
 use Rattle.svsm_steps.specs.Places.{PlaceValue, place_after, of_place, place_in}
-use Rattle.svsm_laws.specs.Places.{HaveTheirPlaces}
-use Rattle.svsm_laws.specs.Follows.{due_in, numbers_in, FollowsAt, PlacesFollow}
+use Rattle.svsm_steps.specs.Histories.{HaveTheirPlaces}
+use Rattle.svsm_steps.specs.PlaceFaults.{due_in, numbers_in, FollowsAt}
+use Rattle.svsm_laws.specs.Follows.{PlacesFollow}
 use Rattle.svsm_laws.proofs.Places.{value_of, place_of_kind, place_low, place_in-value, if_same, if_other}
 use Rattle.svsm_laws.proofs.Merged.{after_entry}
 

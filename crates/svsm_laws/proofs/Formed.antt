@@ -21,14 +21,15 @@ use Rattle.svsm_steps.specs.declared.answer.Answer.{Answer}
 use Rattle.svsm_steps.specs.declared.answer.Answer.TheVariants.{Done, Word, Denied, Refused, Unchanged, Hw, BadVmsa, Strange, Held, Block, Empty, Seen, Taken, Unknown, Running, Fault}
 use Rattle.svsm_steps.specs.State.{State, Constants, RegionState, Block as PoolBlock}
 use Rattle.svsm_steps.specs.Checks.{same_owner, checks, first_failing, refusal}
-use Rattle.svsm_steps.specs.Plan.{Micro, set_owner, rmpadjust, guest_write, guest_adjust, assign, grant, plan, row, vmsa_holds, after}
+use Rattle.svsm_steps.specs.Plan.{Micro, set_owner, rmpadjust, guest_write, guest_adjust, assign, grant, plan, step_row, vmsa_holds, after}
 use Rattle.svsm_steps.specs.Words.{with_pending}
 use Rattle.svsm_steps.specs.Region.{AnswersPlan, fault_at, answer_of, answer_from, code_answer, is_platform_at}
 use Rattle.svsm_steps.specs.Pool.{pool_answer, same_size, last_block}
 use Rattle.svsm_steps.specs.Registry.{rows_refusal, rows_checks, rows_done_answer, seen, of_apic_in}
 use Rattle.svsm_steps.specs.Machine.{Kind, region, pool, registry, kind, own_region, MayGive}
 use Rattle.svsm_steps.specs.Formed.{IsSizedPage, IsAnswer, is_listed, may_fault}
-use Rattle.svsm_laws.specs.Mapped.{AreBlocks, AreRows, IsMapped, AnswersAreFormed}
+use Rattle.svsm_steps.specs.Mapped.{AreBlocks, AreRows, IsMapped}
+use Rattle.svsm_laws.specs.Mapped.{AnswersAreFormed}
 use Rattle.svsm_laws.proofs.Mapped.{IsBlock, IsRow}
 use Rattle.svsm_laws.proofs.Answers.{fault_of}
 
@@ -295,21 +296,21 @@ rows_checks_formed regions apics rows _ = tt
 
 abbrev IsRowOption : ℕ → Option Row → Type 0
 IsRowOption regions None = Unit {0}
-IsRowOption regions (Some row) = IsRow regions row
+IsRowOption regions (Some step_row) = IsRow regions step_row
 
-row_option_by : (regions : ℕ) (b : Bool) (row : Row) (later : Option Row) → IsRow regions row
-    → IsRowOption regions later → IsRowOption regions (cond b (Some row) later)
-row_option_by regions true row later h k = h
-row_option_by regions false row later h k = k
+row_option_by : (regions : ℕ) (b : Bool) (step_row : Row) (later : Option Row) → IsRow regions step_row
+    → IsRowOption regions later → IsRowOption regions (cond b (Some step_row) later)
+row_option_by regions true step_row later h k = h
+row_option_by regions false step_row later h k = k
 
 row_found : (regions : ℕ) (test : Row → Bool) (rows : List Row) → AreRows regions rows → IsRowOption regions (find test rows)
 row_found regions test [] h = tt
-row_found regions test (row ∷ rows) h =
-    row_option_by regions (test row) row (find test rows) h.0 (row_found regions test rows h.1)
+row_found regions test (step_row ∷ rows) h =
+    row_option_by regions (test step_row) step_row (find test rows) h.0 (row_found regions test rows h.1)
 
-seen_formed : (regions apic : ℕ) (row : Option Row) → IsRowOption regions row → IsAnswer regions (Enter apic) (seen row)
+seen_formed : (regions apic : ℕ) (step_row : Option Row) → IsRowOption regions step_row → IsAnswer regions (Enter apic) (seen step_row)
 seen_formed regions apic None h = refl
-seen_formed regions apic (Some row) h = (refl, h)
+seen_formed regions apic (Some step_row) h = (refl, h)
 
 rows_done_formed : (regions : ℕ) (rows : List Row) (step : Step) → kind step ≡ registry → AreRows regions rows
     → IsAnswer regions step (rows_done_answer rows step)

@@ -14,7 +14,8 @@ use Rattle.svsm_steps.specs.Pool.{same_size, last_block, without_last, pool_afte
 use Rattle.svsm_steps.specs.Registry.{of_page, of_page_in, of_apic_in, with_each, without_each, rows_done, rows_refusal}
 use Rattle.svsm_steps.specs.Machine.{Kind, region, pool, registry, kind, next_by, next}
 use Rattle.svsm_steps.specs.Formed.{IsPage, IsSizedPage, IsWord, IsWellFormed}
-use Rattle.svsm_laws.specs.Mapped.{AreBlocks, AreRows, IsMapped, StaysMapped}
+use Rattle.svsm_steps.specs.Mapped.{AreBlocks, AreRows, IsMapped}
+use Rattle.svsm_laws.specs.Mapped.{StaysMapped}
 
 -- blocks
 

@@ -8,7 +8,8 @@ use Rattle.svsm_steps.specs.State.{State, Constants}
 use Rattle.svsm_steps.specs.Machine.{kind, next, IsRunFrom}
 use Rattle.svsm_steps.specs.Formed.{IsWellFormed, AreWellFormed}
 use Rattle.svsm_steps.specs.Places.{PlaceValue, MayAt, place_after, IsReplay, replay, of_place, place_in}
-use Rattle.svsm_laws.specs.Places.{AreReplays, EndAsReplays, LogsMerge, LogsAreReplays}
+use Rattle.svsm_steps.specs.Histories.{AreReplays, EndAsReplays}
+use Rattle.svsm_laws.specs.Places.{LogsMerge, LogsAreReplays}
 use Rattle.svsm_laws.proofs.Places.{place_of_kind, place_low, answers_at_its_place, changes_its_place}
 
 -- the log of a place begins with an entry of it

@@ -5,7 +5,8 @@ use Rattle.svsm_steps.specs.declared.entry.Entry.{Entry}
 use Rattle.svsm_steps.specs.Place.{place_of}
 use Rattle.svsm_steps.specs.Machine.{kind, next, IsRunFrom}
 use Rattle.svsm_steps.specs.DueFaults.{numbers_after, FollowsPlatform}
-use Rattle.svsm_laws.specs.Answers.{IsDueAnswer, RunIsDetermined}
+use Rattle.svsm_steps.specs.OneAnswer.{IsDueAnswer}
+use Rattle.svsm_laws.specs.Answers.{RunIsDetermined}
 use Rattle.svsm_laws.proofs.Answers.{answer_is_determined}
 
 entry_eq : (a b : Entry) → a.ticket ≡ b.ticket → a.core ≡ b.core → a.place ≡ b.place → a.step ≡ b.step

@@ -11,10 +11,10 @@ use Rattle.svsm_types.specs.Pages.{index_of}
 use Rattle.svsm_types.specs.Hardware.{blank, is_usable, right_of}
 use Rattle.svsm_steps.specs.State.{State, Constants, RegionState, IsSized, AreSized, page_at}
 use Rattle.svsm_steps.specs.Checks.{refusal}
-use Rattle.svsm_steps.specs.Plan.{Micro, after_all, row, plan}
-use Rattle.svsm_steps.specs.Region.{fault_at, performed, made, made_if, region_after}
+use Rattle.svsm_steps.specs.Plan.{Micro, after_all, step_row, plan}
+use Rattle.svsm_steps.specs.Region.{fault_at, performed, micros_made, made_if, region_after}
 use Rattle.svsm_steps.specs.Machine.{Kind, region, pool, registry, kind, own_region, with_region, next_by, next, state_after}
-use Rattle.svsm_steps.specs.Safe.{IsSafe, IsShut, IsRegionShut, made_by, state_within, AlwaysSafe}
+use Rattle.svsm_steps.specs.Safe.{IsSafe, IsShut, IsRegionShut, micros_made_by, state_within, AlwaysSafe}
 use Rattle.svsm_steps.specs.Formed.{IsWellFormed, AreWellFormed}
 use Rattle.svsm_laws.specs.Ownership.{IsRegionShutAlong, StepsKeepShut, EntriesKeepShut, KeepsOwnership, ShutIsSafe}
 use Rattle.svsm_laws.proofs.Cells.{along_ended, along_take, along_last, sized-all}
@@ -30,7 +30,7 @@ pub made_shut : (refused : Option Answer) (n : ℕ) (step : Step) (answer : Answ
     → refusal r step ≡ refused → IsWellFormed n step → IsSized r → IsRegionShut r
     → IsRegionShutAlong (made_if refused (plan r step) answer) r
 made_shut None n step answer r e w z s =
-    performed_shut (fault_at answer) (plan r step) r (along_ended (row r step) r (row_shut n step r w e z s))
+    performed_shut (fault_at answer) (plan r step) r (along_ended (step_row r step) r (row_shut n step r w e z s))
 made_shut (Some other) n step answer r e w z s = s
 
 -- a region of a shut state is shut, and the state with a shut region
@@ -66,7 +66,7 @@ safe state s page vmpl other first last =
 
 within_shut : (kd : Kind) (constants : Constants) (state : State) (step : Step) (answer : Answer) (k : ℕ)
     → IsWellFormed constants.regions step → AreSized state → IsShut state
-    → IsRegionShut (after_all (take k (made_by kd constants state step answer)) (own_region constants step state))
+    → IsRegionShut (after_all (take k (micros_made_by kd constants state step answer)) (own_region constants step state))
 within_shut region constants state step answer k w z s =
     let r : RegionState = own_region constants step state in
     along_last _ r (along_take k _ r
@@ -97,7 +97,7 @@ pub next_sized : (kd : Kind) (constants : Constants) (state : State) (step : Ste
 next_sized region constants state step answer z = λ number.
     sized_by (place_of constants.regions step == number) (region_after (own_region constants step state) step answer)
     (state.regions number)
-    (sized-all (made (own_region constants step state) step answer) (own_region constants step state)
+    (sized-all (micros_made (own_region constants step state) step answer) (own_region constants step state)
     (z (place_of constants.regions step))) (z number)
 next_sized pool constants state step answer z = z
 next_sized registry constants state step answer z = z
@@ -108,7 +108,7 @@ within_safe : (constants : Constants) (state : State) (entry : Entry) (k : ℕ)
 within_safe constants state entry k w z s =
     safe (state_within constants state entry k)
     (state_shut (place_of constants.regions entry.step)
-    (after_all (take k (made_by (kind entry.step) constants state entry.step entry.answer))
+    (after_all (take k (micros_made_by (kind entry.step) constants state entry.step entry.answer))
     (own_region constants entry.step state))
     state (within_shut (kind entry.step) constants state entry.step entry.answer k w z s) s)
 
@@ -146,8 +146,8 @@ sized_after constants (entry ∷ entries) state z =
 
 pub steps_keep_shut : StepsKeepShut
 steps_keep_shut regions step r w z s e =
-    let along : IsRegionShutAlong (row r step) r = row_shut regions step r w e z s in
-    (along, along_ended (row r step) r along)
+    let along : IsRegionShutAlong (step_row r step) r = row_shut regions step r w e z s in
+    (along, along_ended (step_row r step) r along)
 
 pub entries_keep_shut : EntriesKeepShut
 entries_keep_shut regions step answer r w z s = made_shut (refusal r step) regions step answer r refl w z s

@@ -3,11 +3,13 @@ use Rattle.std.proofs.Common.{◌≡◌, ℕ, ◌<◌, Bool, true, false, not, L
 use Rattle.std.specs.Prelude.{if◌then◌else◌, ◌==◌, ◌&&◌, ◌||◌, MatchOption, unwrap_or, find, cond}
 use Rattle.std.specs.List.{list_all, list_any}
 use Rattle.std.specs.Option.{option_map_or}
-use Rattle.std.proofs.lemmas.Bool.{and_parts, eqb-true}
+use Rattle.std.proofs.lemmas.Bool.{and_parts, eqb-true, eq-eqb}
 use Rattle.std.proofs.lemmas.List.{get_or-set_same}
 use Rattle.std.proofs.lemmas.List.Folds.{list_all-map}
-use Rattle.svsm_types.specs.Pages.{index_of, covered, changed_at}
-use Rattle.svsm_types.specs.Hardware.{Platform, blank, is_usable, fits, split_by, same_truth, with_right, with_vmsa, does_change, pvalidate_answer, validated_pages, all_usable, rmpadjust_faults, adjusted_pages}
+use Rattle.svsm_types.specs.Pages.{region_of, index_of, covered, changed_at}
+use Rattle.svsm_types.specs.declared.address.Page.{Page}
+use Rattle.svsm_types.specs.declared.platform.Vmpl.{Vmpl}
+use Rattle.svsm_types.specs.Hardware.{Platform, blank, is_usable, fits, large_after, same_truth, with_right, with_vmsa, does_change, pvalidate_answer, validated_pages, all_usable, rmpadjust_faults, adjusted_pages}
 use Rattle.svsm_types.specs.declared.platform.HwCode.{HwCode}
 use Rattle.svsm_types.specs.declared.platform.HwCode.TheVariants.{Changed as hw_changed, Unchanged as hw_unchanged, Fail as hw_fail}
 use Rattle.svsm_types.specs.declared.platform.PageState.{PageState}
@@ -23,21 +25,22 @@ use Rattle.svsm_steps.specs.declared.answer.Answer.TheVariants.{Done, BadVmsa, B
 use Rattle.svsm_steps.specs.Place.{place_of}
 use Rattle.svsm_steps.specs.State.{State, Constants, RegionState, Block, IsSized, AreSized}
 use Rattle.svsm_steps.specs.Checks.{refusal}
-use Rattle.svsm_steps.specs.Plan.{Micro, set_owner, pvalidate, rmpadjust, grant, after, after_all, plan, row, vmsa_holds}
+use Rattle.svsm_steps.specs.Plan.{Micro, set_owner, pvalidate, rmpadjust, grant, after, after_all, plan, step_row, vmsa_holds}
 use Rattle.svsm_steps.specs.Region.{AnswersPlan, performed, fault_at, answer_of, answer_from, code_answer, none_faults, made_if, region_after}
 use Rattle.svsm_steps.specs.Pool.{pool_answer, pool_after, last_block, without_last, same_size}
 use Rattle.svsm_steps.specs.Registry.{rows_refusal, rows_done, rows_done_answer, seen, of_apic_in}
 use Rattle.svsm_steps.specs.Machine.{Kind, region, pool, registry, kind, MayGive, next_by}
-use Rattle.svsm_laws.specs.Refusals.{is_refusal, IsSameRegion, IsSameState, RefusalsChangeNothing}
+use Rattle.svsm_laws.specs.Refusals.{is_refusing, may_split, IsSameRegion, IsSameState, RefusalsChangeNothing}
 use Rattle.svsm_laws.proofs.Cells.{length-changed_at}
 use Rattle.svsm_laws.proofs.Answers.{fault_of}
 
-same_region : (r : RegionState) → IsSameRegion r r
-same_region r = record { pages = refl; words = refl; owner = refl; recorded = refl; unjoined = λ e. e }
+same_region : (splits : Bool) (r : RegionState) → IsSameRegion splits r r
+same_region splits r =
+    record { pages = refl; words = refl; owner = refl; recorded = refl; mark = λ e. refl; unjoined = λ e. e }
 
 -- validating
 
-stays_split : (size : Size) (large : Bool) → large ≡ false → split_by size large ≡ false
+stays_split : (size : Size) (large : Bool) → large ≡ false → large_after size large ≡ false
 stays_split Small large e = refl
 stays_split Large large e = e
 
@@ -45,7 +48,7 @@ kept_pages : (changes : Bool) (new old : List PageState) → changes ≡ false �
 kept_pages false new old e = refl
 kept_pages true new old e = cc
 
-unchanging : (code : HwCode) → is_refusal (code_answer code Done) ≡ true → does_change code ≡ false
+unchanging : (code : HwCode) → is_refusing (code_answer code Done) ≡ true → does_change code ≡ false
 unchanging hw_changed h = cc
 unchanging hw_unchanged h = refl
 unchanging (hw_fail code) h = refl
@@ -54,19 +57,30 @@ cut : (b : Bool) (rest : List Micro) (r : RegionState) → b ≡ false → after
 cut false rest r e = refl
 cut true rest r e = cc
 
-pvalidate_same : (size : Size) (page : ℕ) (r : RegionState) (rest : List Micro)
+true_is_not : true ≡ false → ⊥
+true_is_not e = cc
+
+-- the mark stays where the operation is in 2M
+kept_mark : (vmpl : Vmpl) (page : Page) (size : Size) (on large : Bool)
+    → may_split (region_of page.0) (Validate vmpl page size on) ≡ false → large_after size large ≡ large
+kept_mark vmpl page Small on large e = absurd (true_is_not (sym (eq-eqb (region_of page.0) (region_of page.0) refl) ∙ e))
+kept_mark vmpl page Large on large e = refl
+
+pvalidate_same : (splits : Bool) (size : Size) (page : ℕ) (r : RegionState) (rest : List Micro)
+    → (splits ≡ false → large_after size r.hw.large ≡ r.hw.large)
     → does_change (pvalidate_answer size page true r.hw) ≡ false
-    → IsSameRegion r (after_all
+    → IsSameRegion splits r (after_all
     (pvalidate size page true ∷ (if does_change (pvalidate_answer size page true r.hw) then rest else [])) r)
 unfolding validated_pages
-pvalidate_same size page r rest e =
-    subst (λ (s : RegionState). IsSameRegion r s)
+pvalidate_same splits size page r rest m e =
+    subst (λ (s : RegionState). IsSameRegion splits r s)
     (sym (cut (does_change (pvalidate_answer size page true r.hw)) rest (after (pvalidate size page true) r) e))
     (record {
       pages = kept_pages (does_change (pvalidate_answer size page true r.hw)) _ r.hw.pages e;
       words = refl;
       owner = refl;
       recorded = refl;
+      mark = m;
       unjoined = stays_split size r.hw.large;
     })
 
@@ -134,7 +148,7 @@ off_changes size page hw full fit h =
     (none_off (covered blank size (index_of page) hw.pages) (covered_some size (index_of page) hw.pages full) h)
 
 fits_still : (size : Size) (large : Bool) → fits size large ≡ true
-    → fits size (split_by size (split_by size (split_by size large))) ≡ true
+    → fits size (large_after size (large_after size (large_after size large))) ≡ true
 fits_still Small large e = refl
 fits_still Large large e = e
 
@@ -173,13 +187,13 @@ revoked_changes size page r z h =
     (usable_changed size i to_two one (kept_usable 2 0 false) full_one (omega arith)
     (usable_changed size i to_one r.hw.pages (kept_usable 1 0 false) z.pages (omega arith) fine.1)))
 
-done_after : (code : HwCode) → code ≡ hw_changed → is_refusal (code_answer code Done) ≡ true → ⊥
+done_after : (code : HwCode) → code ≡ hw_changed → is_refusing (code_answer code Done) ≡ true → ⊥
 done_after hw_changed e h = cc
 done_after hw_unchanged e h = cc
 done_after (hw_fail number) e h = cc
 
 vmsa_no_refusal : (b : Bool) (vmpl page : ℕ) (r : RegionState)
-    → is_refusal (answer_from
+    → is_refusing (answer_from
     (if b then rmpadjust Small page 1 0 true ∷ [] else set_owner Small page Guest ∷ grant vmpl Small page) r
     (if b then Done else BadVmsa)) ≡ true
     → ⊥
@@ -187,36 +201,37 @@ vmsa_no_refusal true vmpl page r h = cc
 vmsa_no_refusal false vmpl page r h = cc
 
 -- an admitted step with such an answer
-planned_same : (r : RegionState) (step : Step) → IsSized r → none_faults (plan r step) r ≡ true
-    → is_refusal (answer_of r step) ≡ true
-    → IsSameRegion r (after_all (plan r step) r)
-planned_same r (Validate vmpl page size true) z n h =
-    pvalidate_same size page.0 r _ (unchanging (pvalidate_answer size page.0 true r.hw) h)
-planned_same r (Validate vmpl page size false) z n h =
+planned_same : (regions : ℕ) (r : RegionState) (step : Step) → IsSized r → none_faults (plan r step) r ≡ true
+    → is_refusing (answer_of r step) ≡ true
+    → IsSameRegion (may_split (place_of regions step) step) r (after_all (plan r step) r)
+planned_same regions r (Validate vmpl page size true) z n h =
+    pvalidate_same (may_split (region_of page.0) (Validate vmpl page size true)) size page.0 r _
+    (kept_mark vmpl page size true r.hw.large) (unchanging (pvalidate_answer size page.0 true r.hw) h)
+planned_same regions r (Validate vmpl page size false) z n h =
     absurd (done_after (pvalidate_answer size page.0 false (revoked size page.0 r).hw)
     (revoked_changes size page.0 r z (and_parts (not (rmpadjust_faults size page.0 r.hw)) _ n).0) (unfold revoked in h))
-planned_same r (VmsaTake vmpl page features) z n h =
+planned_same regions r (VmsaTake vmpl page features) z n h =
     absurd (vmsa_no_refusal (vmsa_holds vmpl.0 features page.0 r) vmpl.0 page.0 _ h)
-planned_same r _ z n h = cc
+planned_same regions r _ z n h = cc
 
-no_fault_refusal : (answer : Answer) (done : ℕ) → answer ≡ Fault done → is_refusal answer ≡ true → ⊥
-no_fault_refusal answer done e h = refute (subst (λ (a : Answer). is_refusal a ≡ true) e h)
+no_fault_refusal : (answer : Answer) (done : ℕ) → answer ≡ Fault done → is_refusing answer ≡ true → ⊥
+no_fault_refusal answer done e h = refute (subst (λ (a : Answer). is_refusing a ≡ true) e h)
   where
     refute : false ≡ true → ⊥
     refute k = cc
 
-faulted_same : (r : RegionState) (step : Step) (answer : Answer) (fault : Option ℕ) → IsSized r → fault_at answer ≡ fault
-    → AnswersPlan r step answer fault → is_refusal answer ≡ true
-    → IsSameRegion r (after_all (performed (plan r step) fault) r)
-faulted_same r step answer None z e h k =
-    planned_same r step z h.0 (subst (λ (a : Answer). is_refusal a ≡ true) h.1 k)
-faulted_same r step answer (Some done) z e h k = absurd (no_fault_refusal answer done (fault_of answer done e) k)
+faulted_same : (regions : ℕ) (r : RegionState) (step : Step) (answer : Answer) (fault : Option ℕ) → IsSized r
+    → fault_at answer ≡ fault → AnswersPlan r step answer fault → is_refusing answer ≡ true
+    → IsSameRegion (may_split (place_of regions step) step) r (after_all (performed (plan r step) fault) r)
+faulted_same regions r step answer None z e h k =
+    planned_same regions r step z h.0 (subst (λ (a : Answer). is_refusing a ≡ true) h.1 k)
+faulted_same regions r step answer (Some done) z e h k = absurd (no_fault_refusal answer done (fault_of answer done e) k)
 
-region_same : (refused : Option Answer) (r : RegionState) (step : Step) (answer : Answer) → IsSized r
-    → MatchOption refused (AnswersPlan r step answer (fault_at answer)) (λ other. answer ≡ other) → is_refusal answer ≡ true
-    → IsSameRegion r (after_all (made_if refused (plan r step) answer) r)
-region_same None r step answer z h k = faulted_same r step answer (fault_at answer) z refl h k
-region_same (Some other) r step answer z h k = same_region r
+region_same : (regions : ℕ) (refused : Option Answer) (r : RegionState) (step : Step) (answer : Answer) → IsSized r
+    → MatchOption refused (AnswersPlan r step answer (fault_at answer)) (λ other. answer ≡ other) → is_refusing answer ≡ true
+    → IsSameRegion (may_split (place_of regions step) step) r (after_all (made_if refused (plan r step) answer) r)
+region_same regions None r step answer z h k = faulted_same regions r step answer (fault_at answer) z refl h k
+region_same regions (Some other) r step answer z h k = same_region (may_split (place_of regions step) step) r
 
 -- the pool
 
@@ -233,12 +248,12 @@ without_none size (block ∷ blocks) e =
     without_none_by size block blocks (without_last size blocks) (last_block size blocks) (same_size block.size size) e
 
 empty_only : (found : Option Block) (left none : ℕ)
-    → is_refusal (option_map_or (λ (block : Block). block_answer block.page left) found (Empty none)) ≡ true
+    → is_refusing (option_map_or (λ (block : Block). block_answer block.page left) found (Empty none)) ≡ true
     → found ≡ None
 empty_only None left none h = refl
 empty_only (Some block) left none h = cc
 
-pool_same : (blocks : List Block) (step : Step) → is_refusal (pool_answer blocks step) ≡ true
+pool_same : (blocks : List Block) (step : Step) → is_refusing (pool_answer blocks step) ≡ true
     → pool_after blocks step ≡ blocks
 pool_same blocks (PoolPush page size) h = cc
 pool_same blocks (PoolPop size) h = without_none size blocks (empty_only (last_block size blocks) _ _ h)
@@ -246,12 +261,12 @@ pool_same blocks _ h = refl
 
 -- the registry
 
-found_any : (test : Row → Bool) (rows : List Row) → list_any test rows ≡ true → is_refusal (seen (find test rows)) ≡ true → ⊥
+found_any : (test : Row → Bool) (rows : List Row) → list_any test rows ≡ true → is_refusing (seen (find test rows)) ≡ true → ⊥
 found_any test [] h k = cc
-found_any test (row ∷ rows) h k = by_test (test row) h k (found_any test rows)
+found_any test (step_row ∷ rows) h k = by_test (test step_row) h k (found_any test rows)
   where
-    by_test : (b : Bool) → b || list_any test rows ≡ true → is_refusal (seen (cond b (Some row) (find test rows))) ≡ true
-        → (list_any test rows ≡ true → is_refusal (seen (find test rows)) ≡ true → ⊥) → ⊥
+    by_test : (b : Bool) → b || list_any test rows ≡ true → is_refusing (seen (cond b (Some step_row) (find test rows))) ≡ true
+        → (list_any test rows ≡ true → is_refusing (seen (find test rows)) ≡ true → ⊥) → ⊥
     by_test true e f later = cc
     by_test false e f later = later e f
 
@@ -260,50 +275,51 @@ admitted_any true other e = refl
 admitted_any false other e = cc
 
 done_no_refusal : (apics : List ℕ) (rows : List Row) (step : Step) → rows_refusal apics rows step ≡ None
-    → is_refusal (rows_done_answer rows step) ≡ true → ⊥
+    → is_refusing (rows_done_answer rows step) ≡ true → ⊥
 done_no_refusal apics rows (Enter apic) e h =
     found_any (of_apic_in Ready apic) rows (admitted_any (list_any (of_apic_in Ready apic) rows) Unknown e) h
 done_no_refusal apics rows _ e h = cc
 
 rows_by : (refused : Option Answer) (apics : List ℕ) (rows : List Row) (step : Step) → rows_refusal apics rows step ≡ refused
-    → is_refusal (unwrap_or refused (rows_done_answer rows step)) ≡ true
+    → is_refusing (unwrap_or refused (rows_done_answer rows step)) ≡ true
     → option_map_or (λ (other : Answer). rows) refused (rows_done rows step) ≡ rows
 rows_by (Some other) apics rows step e h = refl
 rows_by None apics rows step e h = absurd (done_no_refusal apics rows step e h)
 
 -- all places
 
-regions_same : (k number : ℕ) (b : Bool) (r : RegionState) (state : State) → (b ≡ true → k ≡ number)
-    → IsSameRegion (state.regions k) r
-    → IsSameRegion (state.regions number) (if b then r else state.regions number)
-regions_same k number true r state e h = subst (λ (n : ℕ). IsSameRegion (state.regions n) r) (e refl) h
-regions_same k number false r state e h = same_region (state.regions number)
+regions_same : (k number : ℕ) (b : Bool) (step : Step) (r : RegionState) (state : State) → (b ≡ true → k ≡ number)
+    → IsSameRegion (may_split k step) (state.regions k) r
+    → IsSameRegion (may_split number step) (state.regions number) (if b then r else state.regions number)
+regions_same k number true step r state e h =
+    subst (λ (n : ℕ). IsSameRegion (may_split n step) (state.regions n) r) (e refl) h
+regions_same k number false step r state e h = same_region (may_split number step) (state.regions number)
 
 next_same : (kd : Kind) (constants : Constants) (state : State) (step : Step) (answer : Answer) → AreSized state
-    → MayGive kd constants state step answer → is_refusal answer ≡ true
-    → IsSameState state (next_by kd constants state step answer)
+    → MayGive kd constants state step answer → is_refusing answer ≡ true
+    → IsSameState step state (next_by kd constants state step answer)
 next_same region constants state step answer z h k =
     let p : ℕ = place_of constants.regions step in
     record {
-      regions = λ number. regions_same p number (p == number) (region_after (state.regions p) step answer) state
+      regions = λ number. regions_same p number (p == number) step (region_after (state.regions p) step answer) state
           (eqb-true p number)
-          (region_same (refusal (state.regions p) step) (state.regions p) step answer (z p) h k);
+          (region_same constants.regions (refusal (state.regions p) step) (state.regions p) step answer (z p) h k);
       pool = refl;
       rows = refl;
     }
 next_same pool constants state step answer z h k = record {
-  regions = λ number. same_region (state.regions number);
-  pool = pool_same state.pool step (subst (λ (a : Answer). is_refusal a ≡ true) h k);
+  regions = λ number. same_region (may_split number step) (state.regions number);
+  pool = pool_same state.pool step (subst (λ (a : Answer). is_refusing a ≡ true) h k);
   rows = refl;
 }
 next_same registry constants state step answer z h k = record {
-  regions = λ number. same_region (state.regions number);
+  regions = λ number. same_region (may_split number step) (state.regions number);
   pool = refl;
   rows = rows_by (rows_refusal constants.apics state.rows step) constants.apics state.rows step refl
-      (subst (λ (a : Answer). is_refusal a ≡ true) h k);
+      (subst (λ (a : Answer). is_refusing a ≡ true) h k);
 }
 
 pub refusals_change_nothing : RefusalsChangeNothing
 refusals_change_nothing constants old entry new z h k =
-    subst (λ (s : State). IsSameState old s) (sym h.1)
+    subst (λ (s : State). IsSameState entry.step old s) (sym h.1)
     (next_same (kind entry.step) constants old entry.step entry.answer z h.0 k)

@@ -17,7 +17,7 @@ use Rattle.svsm_types.specs.Hardware.{blank, no_right, right_of, is_usable, reac
 use Rattle.svsm_steps.specs.State.{RegionState, IsSized}
 use Rattle.svsm_steps.specs.Words.{without_svme}
 use Rattle.svsm_steps.specs.Checks.{same_owner, all_owned, checks, first_failing, refusal}
-use Rattle.svsm_steps.specs.Plan.{Micro, read, write, clear, pvalidate, rmpadjust, set_owner, set_recorded, guest_write, guest_adjust, assign, row, grant, revoke, vmsa_holds}
+use Rattle.svsm_steps.specs.Plan.{Micro, read, write, clear, pvalidate, rmpadjust, set_owner, set_recorded, guest_write, guest_adjust, assign, step_row, grant, revoke, vmsa_holds}
 use Rattle.svsm_steps.specs.Formed.{IsWellFormed}
 use Rattle.svsm_steps.specs.Safe.{IsRegionShut}
 use Rattle.svsm_laws.specs.Ownership.{IsRegionShutAlong}
@@ -263,7 +263,7 @@ vmsa_cells false vmpl page x y z index c h g = vmsa_take (covers Small (index_of
 
 -- one page stays shut along the row of an admitted step
 row_cells : (n : ℕ) (step : Step) (r : RegionState) → IsWellFormed n step → refusal r step ≡ None → IsSized r
-    → IsRegionShut r → (index : ℕ) → index < 512 → IsShutAlong (covers_here index) (row r step) (cell_at r index)
+    → IsRegionShut r → (index : ℕ) → index < 512 → IsShutAlong (covers_here index) (step_row r step) (cell_at r index)
 row_cells n (GuestWrite vmpl gpa word) r w a z s index low = (s index low, s index low)
 row_cells n (GuestPend vmpl gpa) r w a z s index low = (s index low, s index low)
 row_cells n (GuestRead vmpl gpa) r w a z s index low = s index low
@@ -316,5 +316,5 @@ row_cells n (Enter apic) r w a z s index low = s index low
 row_cells n (Leave apic) r w a z s index low = s index low
 
 pub row_shut : (n : ℕ) (step : Step) (r : RegionState) → IsWellFormed n step → refusal r step ≡ None → IsSized r
-    → IsRegionShut r → IsRegionShutAlong (row r step) r
-row_shut n step r w a z s = along_cells (row r step) r z (row_cells n step r w a z s)
+    → IsRegionShut r → IsRegionShutAlong (step_row r step) r
+row_shut n step r w a z s = along_cells (step_row r step) r z (row_cells n step r w a z s)

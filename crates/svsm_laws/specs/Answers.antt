@@ -1,45 +1,19 @@
 -- One answer: what a step answers, and the state after it, are determined.
-use Rattle.std.specs.Prelude.{◌≡◌, ℕ, Option, None, Some, List, [], ◌∷◌, ⊤}
+use Rattle.std.specs.Prelude.{◌≡◌, ℕ, List, [], ◌∷◌, ⊤}
 use Rattle.svsm_types.specs.Numbers.{Numbers}
 use Rattle.svsm_steps.specs.declared.step.Step.{Step}
 use Rattle.svsm_steps.specs.declared.answer.Answer.{Answer}
-use Rattle.svsm_steps.specs.declared.answer.Answer.TheVariants.{Fault}
 use Rattle.svsm_steps.specs.declared.entry.Entry.{Entry}
-use Rattle.svsm_steps.specs.Place.{place_of}
-use Rattle.svsm_steps.specs.State.{State, Constants, RegionState}
-use Rattle.svsm_steps.specs.Checks.{refusal}
-use Rattle.svsm_steps.specs.Region.{fault_at, answer_of}
-use Rattle.svsm_steps.specs.Pool.{pool_answer}
-use Rattle.svsm_steps.specs.Registry.{rows_answer}
-use Rattle.svsm_steps.specs.Machine.{Kind, region, pool, registry, kind, own_region, MayGive, Leads, IsRunFrom}
-use Rattle.svsm_steps.specs.DueFaults.{region_due, due_at, FollowsPlatform}
+use Rattle.svsm_steps.specs.State.{State, Constants}
+use Rattle.svsm_steps.specs.Machine.{kind, Leads, IsRunFrom}
+use Rattle.svsm_steps.specs.DueFaults.{FollowsPlatform}
+use Rattle.svsm_steps.specs.OneAnswer.{due_answer, IsDueAnswer}
 
 -- An entry leads from a state to one state.
 abbrev pub StateIsDetermined : Type 0
 StateIsDetermined =
     (constants : Constants) (old : State) (entry : Entry) (new other : State) → Leads constants old entry new
     → Leads constants old entry other → new ≡ other
-
--- the answer of a check that fails, else a fault where one is due, else that of the step table
-abbrev pub answer_by : Option Answer → Option ℕ → Answer → Answer
-answer_by (Some other) due answer = other
-answer_by None (Some done) answer = Fault done
-answer_by None None answer = answer
-
-abbrev pub region_answer : Numbers → RegionState → Step → Answer
-region_answer numbers r step = answer_by (refusal r step) (region_due numbers r step) (answer_of r step)
-
--- the answer of a step on a platform that faults what is due to fault, by the numbers of each region
-abbrev pub due_answer : Kind → Constants → (ℕ → Numbers) → State → Step → Answer
-due_answer region constants numbers state step =
-    region_answer (numbers (place_of constants.regions step)) (own_region constants step state) step
-due_answer pool constants numbers state step = pool_answer state.pool step
-due_answer registry constants numbers state step = rows_answer constants.apics state.rows step
-
--- an answer that a step may have, and that faults where the step is due to fault
-abbrev pub IsDueAnswer : Constants → (ℕ → Numbers) → State → Step → Answer → Type 0
-IsDueAnswer constants numbers state step answer =
-    MayGive (kind step) constants state step answer × (fault_at answer ≡ due_at (kind step) constants numbers state step)
 
 -- There is one such answer at most,
 abbrev pub AnswerIsDetermined : Type 0

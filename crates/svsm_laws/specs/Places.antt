@@ -1,13 +1,14 @@
 -- A step depends on its own place alone, and the logs of the places make up the run.
-use Rattle.std.specs.Prelude.{◌≡◌, ◌↔◌, ℕ, ◌+◌, ◌≤◌, ◌==◌, if◌then◌else◌, List, [], ◌∷◌, ⊤}
+use Rattle.std.specs.Prelude.{◌≡◌, ◌↔◌, ℕ, ◌+◌, ◌≤◌, ◌==◌, if◌then◌else◌, List}
 use Rattle.svsm_steps.specs.declared.step.Step.{Step}
 use Rattle.svsm_steps.specs.declared.answer.Answer.{Answer}
 use Rattle.svsm_steps.specs.declared.entry.Entry.{Entry}
 use Rattle.svsm_steps.specs.Place.{place_of}
 use Rattle.svsm_steps.specs.State.{State, Constants}
-use Rattle.svsm_steps.specs.Machine.{kind, MayGive, next, IsRunFrom, state_after}
+use Rattle.svsm_steps.specs.Machine.{kind, MayGive, next, IsRunFrom}
 use Rattle.svsm_steps.specs.Formed.{IsWellFormed, AreWellFormed}
-use Rattle.svsm_steps.specs.Places.{MayAt, place_after, IsReplay, replay, of_place, place_in}
+use Rattle.svsm_steps.specs.Places.{MayAt, place_after, place_in}
+use Rattle.svsm_steps.specs.Histories.{HaveTicketsFrom, HaveTheirPlaces, AreReplays, EndAsReplays}
 
 -- The answers that a well-formed step may have are those that it may have at its own place.
 abbrev pub AnswersAtItsPlace : Type 0
@@ -26,35 +27,12 @@ ChangesItsPlace =
     then place_after constants.apics (place_in constants state number) entry.step entry.answer
     else place_in constants state number)
 
--- the entries have the tickets n, n + 1 and so on
-abbrev pub HaveTicketsFrom : ℕ → List Entry → Type 0
-HaveTicketsFrom n [] = ⊤
-HaveTicketsFrom n (entry ∷ entries) = (entry.ticket ≡ n) × HaveTicketsFrom (n + 1) entries
-
--- each entry has the place of its step
-abbrev pub HaveTheirPlaces : ℕ → List Entry → Type 0
-HaveTheirPlaces regions [] = ⊤
-HaveTheirPlaces regions (entry ∷ entries) = (entry.place ≡ place_of regions entry.step) × HaveTheirPlaces regions entries
-
--- each place's entries are a replay from its state
-abbrev pub AreReplays : Constants → State → List Entry → Type 0
-AreReplays constants state entries =
-    (number : ℕ) → number ≤ constants.regions + 1
-    → IsReplay constants.apics (place_in constants state number) (of_place number entries)
-
 -- Logs that are replays, each of its own place, make up a run, in whatever order they are merged.
 abbrev pub LogsMerge : Type 0
 LogsMerge =
     (constants : Constants) (n : ℕ) (state : State) (entries : List Entry) → HaveTicketsFrom n entries
     → HaveTheirPlaces constants.regions entries → AreWellFormed constants.regions entries
     → AreReplays constants state entries → IsRunFrom constants n state entries
-
--- each place of the last state is the replay of its entries
-abbrev pub EndAsReplays : Constants → State → List Entry → Type 0
-EndAsReplays constants state entries =
-    (number : ℕ) → number ≤ constants.regions + 1
-    → place_in constants (state_after constants state entries) number
-    ≡ replay constants.apics (place_in constants state number) (of_place number entries)
 
 -- In a run each place's entries are a replay from its state, and end in its last state.
 abbrev pub LogsAreReplays : Type 0

@@ -1,44 +1,55 @@
 -- A step that is refused changes nothing, and 4K entries never join.
-use Rattle.std.specs.Prelude.{◌≡◌, ℕ, ◌<◌, Bool, true, false, IsTrue, List, slice_index_or}
+use Rattle.std.specs.Prelude.{◌≡◌, ℕ, ◌<◌, ◌==◌, Bool, true, false, IsTrue, is_none, List, slice_index_or}
 use Rattle.svsm_types.specs.declared.image.Image.{Image}
 use Rattle.svsm_types.specs.Pages.{region_of}
 use Rattle.svsm_types.specs.Hardware.{blank}
+use Rattle.svsm_steps.specs.declared.step.Step.{Step}
+use Rattle.svsm_steps.specs.declared.step.Step.TheVariants.{Validate}
 use Rattle.svsm_steps.specs.declared.answer.Answer.{Answer}
 use Rattle.svsm_steps.specs.declared.answer.Answer.TheVariants.{Done, Word, Denied, Refused, Unchanged, Hw, BadVmsa, Strange, Held, Block, Empty, Seen, Taken, Unknown, Running, Fault}
 use Rattle.svsm_steps.specs.declared.entry.Entry.{Entry}
+use Rattle.svsm_types.specs.declared.platform.Size.TheVariants.{Small}
+use Rattle.svsm_steps.specs.Checks.{refusal}
+use Rattle.svsm_steps.specs.Registry.{rows_refusal}
 use Rattle.svsm_steps.specs.State.{State, Constants, RegionState, AreSized}
 use Rattle.svsm_steps.specs.Image.{range_of, page_in, is_held_large, booted}
-use Rattle.svsm_steps.specs.Machine.{Leads, state_after}
+use Rattle.svsm_steps.specs.Machine.{Kind, region, pool, registry, kind, own_region, Leads, state_after}
 
 -- the answers of a step that did not do what it was asked for
-abbrev pub is_refusal : Answer → Bool
-is_refusal Denied = true
-is_refusal Refused = true
-is_refusal Unchanged = true
-is_refusal (Hw code) = true
-is_refusal (Strange owner) = true
-is_refusal (Empty left) = true
-is_refusal Taken = true
-is_refusal Unknown = true
-is_refusal Running = true
-is_refusal Done = false
-is_refusal (Word word) = false
-is_refusal BadVmsa = false
-is_refusal (Held count) = false
-is_refusal (Block page left) = false
-is_refusal (Seen page caa) = false
-is_refusal (Fault done) = false
+abbrev pub is_refusing : Answer → Bool
+is_refusing Denied = true
+is_refusing Refused = true
+is_refusing Unchanged = true
+is_refusing (Hw code) = true
+is_refusing (Strange owner) = true
+is_refusing (Empty left) = true
+is_refusing Taken = true
+is_refusing Unknown = true
+is_refusing Running = true
+is_refusing Done = false
+is_refusing (Word word) = false
+is_refusing BadVmsa = false
+is_refusing (Held count) = false
+is_refusing (Block page left) = false
+is_refusing (Seen page caa) = false
+is_refusing (Fault done) = false
 
--- a region that is the same, but that its 2M entry may be split
-pub record IsSameRegion (old new : RegionState) : Type 0 where
+-- a PVALIDATE in 4K may split the 2M entry of its page's region, whatever it answers; no other refusal changes anything
+abbrev pub may_split : ℕ → Step → Bool
+may_split number (Validate vmpl page Small on) = region_of page.0 == number
+may_split number _ = false
+
+-- a region that is the same, but for the mark of its 2M entry, where the entry may be split
+pub record IsSameRegion (splits : Bool) (old new : RegionState) : Type 0 where
   pub pages : new.hw.pages ≡ old.hw.pages
   pub words : new.hw.words ≡ old.hw.words
   pub owner : new.owner ≡ old.owner
   pub recorded : new.recorded ≡ old.recorded
+  pub mark : splits ≡ false → new.hw.large ≡ old.hw.large
   pub unjoined : old.hw.large ≡ false → new.hw.large ≡ false
 
-pub record IsSameState (old new : State) : Type 0 where
-  pub regions : (number : ℕ) → IsSameRegion (old.regions number) (new.regions number)
+pub record IsSameState (step : Step) (old new : State) : Type 0 where
+  pub regions : (number : ℕ) → IsSameRegion (may_split number step) (old.regions number) (new.regions number)
   pub pool : new.pool ≡ old.pool
   pub rows : new.rows ≡ old.rows
 
@@ -46,7 +57,25 @@ pub record IsSameState (old new : State) : Type 0 where
 abbrev pub RefusalsChangeNothing : Type 0
 RefusalsChangeNothing =
     (constants : Constants) (old : State) (entry : Entry) (new : State) → AreSized old → Leads constants old entry new
-    → IsTrue (is_refusal entry.answer) → IsSameState old new
+    → IsTrue (is_refusing entry.answer) → IsSameState entry.step old new
+
+-- whether all checks of a step hold; those of the pool have none
+abbrev pub is_admitted : Kind → Constants → State → Step → Bool
+is_admitted region constants state step = is_none (refusal (own_region constants step state) step)
+is_admitted pool constants state step = true
+is_admitted registry constants state step = is_none (rows_refusal constants.apics state.rows step)
+
+-- A step that is not admitted leaves the whole state as it was.
+abbrev pub NotAdmittedChangesNothing : Type 0
+NotAdmittedChangesNothing =
+    (constants : Constants) (old : State) (entry : Entry) (new : State) → Leads constants old entry new
+    → is_admitted (kind entry.step) constants old entry.step ≡ false → new ≡ old
+
+-- No step of a core makes a region one 2M entry.
+abbrev pub NoneJoins : Type 0
+NoneJoins =
+    (constants : Constants) (old : State) (entry : Entry) (new : State) (number : ℕ) → Leads constants old entry new
+    → (old.regions number).hw.large ≡ false → (new.regions number).hw.large ≡ false
 
 -- the 512 pages of a region that is held as one 2M entry have one state
 abbrev pub IsCommon : RegionState → Type 0

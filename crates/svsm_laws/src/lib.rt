@@ -6,12 +6,13 @@
 ghost use Rattle.svsm_laws.specs.Allowed.{AnswersAreDecided};
 ghost use Rattle.svsm_laws.specs.Answers.{StateIsDetermined, AnswerIsDetermined, AnswerExists, RunIsDetermined};
 ghost use Rattle.svsm_laws.specs.Booted.{BootedIsShut, SpansAcceptGuests, BootedIsAlwaysSafe};
+ghost use Rattle.svsm_laws.specs.Consistent.{BootedIsConsistent, StaysConsistent};
 ghost use Rattle.svsm_laws.specs.Examples.{PlatformExamples, StepExamples};
 ghost use Rattle.svsm_laws.specs.Follows.{PlacesFollow};
 ghost use Rattle.svsm_laws.specs.Mapped.{AnswersAreFormed, StaysMapped, BootedIsMapped};
 ghost use Rattle.svsm_laws.specs.Ownership.{StepsKeepShut, EntriesKeepShut, KeepsOwnership, ShutIsSafe};
 ghost use Rattle.svsm_laws.specs.Places.{AnswersAtItsPlace, ChangesItsPlace, LogsMerge, LogsAreReplays};
-ghost use Rattle.svsm_laws.specs.Refusals.{RefusalsChangeNothing, StaysCommon, BootedIsCommon};
+ghost use Rattle.svsm_laws.specs.Refusals.{RefusalsChangeNothing, NotAdmittedChangesNothing, NoneJoins, StaysCommon, BootedIsCommon};
 ghost use Rattle.svsm_laws.specs.Runs.{RunsGoOn, PlatformsAreFollowed};
 
 /// An entry leads from a state to one state.
@@ -109,9 +110,19 @@ pub fn booted_is_always_safe()
     ensures { BootedIsAlwaysSafe }
 {}
 
-/// A step that is refused changes nothing, but that it may split a 2M entry.
+/// A step with a refusing answer changes nothing, but that a PVALIDATE in 4K may split the 2M entry of its region.
 pub fn refusals_change_nothing()
     ensures { RefusalsChangeNothing }
+{}
+
+/// A step that is not admitted leaves the whole state as it was.
+pub fn not_admitted_changes_nothing()
+    ensures { NotAdmittedChangesNothing }
+{}
+
+/// No step of a core makes a region one 2M entry.
+pub fn none_joins()
+    ensures { NoneJoins }
 {}
 
 /// The pages of each 2M entry keep one common state.
@@ -137,6 +148,16 @@ pub fn stays_mapped()
 /// Blocks and rows of the booted state lie in the map.
 pub fn booted_is_mapped()
     ensures { BootedIsMapped }
+{}
+
+/// The booted state of a sound image is consistent: sized, shut, mapped, with rows, rights and validity in order.
+pub fn booted_is_consistent()
+    ensures { BootedIsConsistent }
+{}
+
+/// Entries with well-formed steps leave a consistent state consistent.
+pub fn stays_consistent()
+    ensures { StaysConsistent }
 {}
 
 /// Worked examples of the platform and of the steps, by computation.
