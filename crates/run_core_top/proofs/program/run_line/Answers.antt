@@ -1,8 +1,5 @@
-use Rattle.std.proofs.Common.{◌≡◌, ◌⊎◌, ℕ, List, map, string_bytes, subst}
-use Rattle.std.specs.Prelude.{None}
-use Rattle.svsm_steps.specs.declared.entry.Entry.{Entry}
+use Rattle.std.proofs.Common.{◌≡◌, ◌⊎◌, ℕ, List, subst}
 use Rattle.svsm_outside.specs.Outside.{Tells}
-use Rattle.run_core_top.specs.Words.{command_of}
 use Rattle.run_core_top.specs.Headline.{Headline, IsCutOff, StopsWith}
 use Rattle.run_core_top.proofs.program.run_line.Goals as goal
 
