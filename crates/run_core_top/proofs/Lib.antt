@@ -1,4 +1,3 @@
-pub mod AppendsLemmas
 pub mod PageLemmas
 pub mod ScriptLemmas
 pub mod CauseLemmas

@@ -3,7 +3,8 @@ use Rattle.std.specs.Prelude.{◌≡◌, ◌≢◌, ◌⊎◌, ℕ, ◌+◌, Lis
 use Rattle.svsm_types.specs.declared.request.Request.{Request}
 use Rattle.run_core_top.specs.declared.stop.Stop.{Stop}
 use Rattle.run_core_top.specs.declared.stop.Stop.TheVariants as stops
-use Rattle.run_core_top.specs.Outside.{FailedAt}
+use Rattle.svsm_outside.specs.Views.{ShelfView}
+use Rattle.svsm_outside.specs.Outside.{FailedAt}
 use Rattle.run_core_top.specs.Image.{base_image}
 use Rattle.run_core_top.specs.Script.{script_of}
 
@@ -29,22 +30,21 @@ IsBadImage told = IfSome told (λ bytes. bytes ≢ base_image)
 abbrev pub IsBadScript : Option (List ℕ) → Type 0
 IsBadScript told = IfSome told (λ bytes. script_of bytes ≡ None)
 
--- why an image was not loaded. `from` and `to` are the shelf's counts of faults before and after, and `failed` the name of the
--- last load that failed: a file is refused only where its load did not fail
-abbrev pub ImageCause : Option (List ℕ) → List ℕ → ℕ → ℕ → Option (List ℕ) → Stop → Type 0
-ImageCause told name from to failed stops.Memory = Unit {0}
-ImageCause told name from to failed stops.Image = (to ≡ from) × IsBadImage told
-ImageCause told name from to failed (stops.Read file) = (file ≡ 0) × FailedAt name from to failed
-ImageCause told name from to failed _ = ⊥
+-- why an image was not loaded: a file is refused only where its load did not fail
+abbrev pub ImageCause : ShelfView → ShelfView → List ℕ → Stop → Type 0
+ImageCause before now name stops.Memory = Unit {0}
+ImageCause before now name stops.Image = (now.faults ≡ before.faults) × IsBadImage (before.told name)
+ImageCause before now name (stops.Read file) = (file ≡ 0) × FailedAt name before now
+ImageCause before now name _ = ⊥
 
 -- why the script of a core was not loaded
-abbrev pub ScriptCause : ℕ → Option (List ℕ) → List ℕ → ℕ → ℕ → Option (List ℕ) → Stop → Type 0
-ScriptCause core told name from to failed stops.Memory = Unit {0}
-ScriptCause core told name from to failed (stops.Script at) = (at ≡ core) × (to ≡ from) × IsBadScript told
-ScriptCause core told name from to failed (stops.Read file) = (file ≡ core + 1) × FailedAt name from to failed
-ScriptCause core told name from to failed _ = ⊥
+abbrev pub ScriptCause : ℕ → ShelfView → ShelfView → List ℕ → Stop → Type 0
+ScriptCause core before now name stops.Memory = Unit {0}
+ScriptCause core before now name (stops.Script at) = (at ≡ core) × (now.faults ≡ before.faults) × IsBadScript (before.told name)
+ScriptCause core before now name (stops.Read file) = (file ≡ core + 1) × FailedAt name before now
+ScriptCause core before now name _ = ⊥
 
 -- why the files were not loaded, or what came of them not written: the image comes first, and then the script
-abbrev pub FilesCause : (List ℕ → Option (List ℕ)) → List ℕ → List ℕ → ℕ → ℕ → Option (List ℕ) → Stop → Type 0
-FilesCause told image script from to failed stop =
-    ImageCause (told image) image from to failed stop ⊎ (Agrees (told image) base_image × ScriptCause 0 (told script) script from to failed stop)
+abbrev pub FilesCause : ShelfView → ShelfView → List ℕ → List ℕ → Stop → Type 0
+FilesCause before now image script stop =
+    ImageCause before now image stop ⊎ (Agrees (before.told image) base_image × ScriptCause 0 before now script stop)

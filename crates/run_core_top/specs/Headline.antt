@@ -11,7 +11,8 @@ use Rattle.svsm_steps.specs.Safe.{AlwaysSafe}
 use Rattle.svsm_calls.specs.Run.{IsRun}
 use Rattle.run_core_top.specs.declared.stop.Stop.{Stop}
 use Rattle.run_core_top.specs.declared.stop.Stop.TheVariants as stops
-use Rattle.run_core_top.specs.Outside.{Appends, AppendsPart}
+use Rattle.svsm_outside.specs.Views.{ShelfView, SinkView}
+use Rattle.svsm_outside.specs.Outside.{IsWritten, IsWrittenInPart}
 use Rattle.run_core_top.specs.Words.{command_of}
 use Rattle.run_core_top.specs.Image.{base_image}
 use Rattle.run_core_top.specs.Base.{base}
@@ -40,27 +41,27 @@ pub record IsCarriedOut (told : List ℕ → Option (List ℕ)) (words : List (L
   pub report : IsReported requests trace text
 
 -- all was written
-pub record Headline (told : List ℕ → Option (List ℕ)) (words : List (List ℕ)) (before now : Option (List ℕ)) (trace : List Entry) : Type 0 where
+pub record Headline (shelf : ShelfView) (words : List (List ℕ)) (before now : SinkView) (trace : List Entry) : Type 0 where
   pub text : List ℕ
-  pub carried_out : IsCarriedOut told words trace text
-  pub printed : Appends before now text
+  pub carried_out : IsCarriedOut shelf.told words trace text
+  pub printed : IsWritten before now text
 
 -- a write failed: a proper front of the text was written
-pub record IsCutOff (told : List ℕ → Option (List ℕ)) (words : List (List ℕ)) (before now : Option (List ℕ)) (trace : List Entry) : Type 0 where
+pub record IsCutOff (shelf : ShelfView) (words : List (List ℕ)) (before now : SinkView) (trace : List Entry) : Type 0 where
   pub text : List ℕ
-  pub carried_out : IsCarriedOut told words trace text
-  pub printed : AppendsPart before now text
+  pub carried_out : IsCarriedOut shelf.told words trace text
+  pub printed : IsWrittenInPart before now text
 
 -- why the words were not carried out: they are not of the form, or their files have this cause
-abbrev pub StopsFor : (List ℕ → Option (List ℕ)) → List (List ℕ) → ℕ → ℕ → Option (List ℕ) → Stop → Type 0
-StopsFor told words from to failed stops.Words = command_of words ≡ None
-StopsFor told words from to failed stop =
+abbrev pub StopsFor : ShelfView → ShelfView → List (List ℕ) → Stop → Type 0
+StopsFor before now words stops.Words = command_of words ≡ None
+StopsFor before now words stop =
     (image : List ℕ) × (script : List ℕ) × (command_of words ≡ Some (record { image = image; scripts = script ∷ [] }))
-    × FilesCause told image script from to failed stop
+    × FilesCause before now image script stop
 
 -- the status came of a stop with its cause, and its line was told
-pub record StopsWith (told : List ℕ → Option (List ℕ)) (words : List (List ℕ)) (from to : ℕ) (failed : Option (List ℕ)) (status : ℕ) (IsTold : List ℕ → Type 0) : Type 0 where
+pub record StopsWith (before now : ShelfView) (words : List (List ℕ)) (status : ℕ) (IsTold : List ℕ → Type 0) : Type 0 where
   pub stop : Stop
   pub is_status : status ≡ status_of stop
-  pub cause : StopsFor told words from to failed stop
+  pub cause : StopsFor before now words stop
   pub line : IsTold (stop_line stop)

@@ -1,5 +1,3 @@
-pub mod Outside
-pub mod Memory
 pub mod Text
 pub mod History
 pub mod Pages
@@ -16,3 +14,4 @@ pub mod Carried
 pub mod Base
 pub mod BaseRun
 pub mod Headline
+pub mod Program

@@ -8,8 +8,8 @@ ghost use Rattle.run_core_top.specs.Causes.{Agrees, IsScript, IsBadImage, IsBadS
 use crate::image::is_base_image;
 use crate::script::script_of;
 use crate::stop::Stop;
-use crate::{LoadError, Shelf};
 use std::alloc::Global;
+use svsm_outside::{LoadError, Shelf};
 use svsm_types::Request;
 
 const FILE_LIMIT: u64 = 16_777_216;
@@ -17,10 +17,10 @@ const FILE_LIMIT: u64 = 16_777_216;
 /// Loads the image, which has to be the one that is read.
 #[tactic(auto, using(crate::proofs::CauseLemmas::long_image))]
 fn load_image<S: Shelf>(alloc: Global, shelf: &mut S, name: &str) -> Result<(), Stop>
-    ensures same { S.told shelf.new ≡ S.told shelf.old }
-    ensures ok { OnOk result (Agrees (S.told shelf.old name.now) base_image) }
-    ensures calm { OnOk result (S.faults shelf.new ≡ S.faults shelf.old) }
-    ensures stop { IfErr result (λ stop. ImageCause (S.told shelf.old name.now) name.now (S.faults shelf.old) (S.faults shelf.new) (S.failed shelf.new) stop) }
+    ensures same { (S.seen shelf.new).told ≡ (S.seen shelf.old).told }
+    ensures ok { OnOk result (Agrees ((S.seen shelf.old).told name.now) base_image) }
+    ensures calm { OnOk result ((S.seen shelf.new).faults ≡ (S.seen shelf.old).faults) }
+    ensures stop { IfErr result (λ stop. ImageCause (S.seen shelf.old) (S.seen shelf.new) name.now stop) }
 {
     match shelf.load(alloc, name, FILE_LIMIT) {
         Ok(bytes) if is_base_image(&bytes) => Ok(()),
@@ -33,11 +33,11 @@ fn load_image<S: Shelf>(alloc: Global, shelf: &mut S, name: &str) -> Result<(), 
 /// Loads the script of core 0.
 #[tactic(auto, using(crate::proofs::CauseLemmas::long_script))]
 fn load_script<S: Shelf>(alloc: Global, shelf: &mut S, name: &str) -> Result<Vec<Request>, Stop>
-    ensures same { S.told shelf.new ≡ S.told shelf.old }
-    ensures ok { IfOk result (λ requests. IsScript (S.told shelf.old name.now) requests.items) }
-    ensures calm { OnOk result (S.faults shelf.new ≡ S.faults shelf.old) }
+    ensures same { (S.seen shelf.new).told ≡ (S.seen shelf.old).told }
+    ensures ok { IfOk result (λ requests. IsScript ((S.seen shelf.old).told name.now) requests.items) }
+    ensures calm { OnOk result ((S.seen shelf.new).faults ≡ (S.seen shelf.old).faults) }
     ensures calls { IfOk result (λ requests. All IsPlainCall requests.items) }
-    ensures stop { IfErr result (λ stop. ScriptCause 0 (S.told shelf.old name.now) name.now (S.faults shelf.old) (S.faults shelf.new) (S.failed shelf.new) stop) }
+    ensures stop { IfErr result (λ stop. ScriptCause 0 (S.seen shelf.old) (S.seen shelf.new) name.now stop) }
 {
     let bytes = match shelf.load(alloc, name, FILE_LIMIT) {
         Ok(bytes) => bytes,
@@ -58,12 +58,12 @@ pub fn load_files<S: Shelf>(
     image: &str,
     script: &str,
 ) -> Result<Vec<Request>, Stop>
-    ensures same { S.told shelf.new ≡ S.told shelf.old }
-    ensures calm { OnOk result (S.faults shelf.new ≡ S.faults shelf.old) }
-    ensures image { OnOk result (Agrees (S.told shelf.old image.now) base_image) }
-    ensures script { IfOk result (λ requests. IsScript (S.told shelf.old script.now) requests.items) }
+    ensures same { (S.seen shelf.new).told ≡ (S.seen shelf.old).told }
+    ensures calm { OnOk result ((S.seen shelf.new).faults ≡ (S.seen shelf.old).faults) }
+    ensures image { OnOk result (Agrees ((S.seen shelf.old).told image.now) base_image) }
+    ensures script { IfOk result (λ requests. IsScript ((S.seen shelf.old).told script.now) requests.items) }
     ensures calls { IfOk result (λ requests. All IsPlainCall requests.items) }
-    ensures stop { IfErr result (λ stop. FilesCause (S.told shelf.old) image.now script.now (S.faults shelf.old) (S.faults shelf.new) (S.failed shelf.new) stop) }
+    ensures stop { IfErr result (λ stop. FilesCause (S.seen shelf.old) (S.seen shelf.new) image.now script.now stop) }
 {
     load_image(alloc, shelf, image)?;
     load_script(alloc, shelf, script)

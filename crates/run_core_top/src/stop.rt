@@ -2,13 +2,12 @@
 ghost use Rattle.std.specs.Prelude.{◌≡◌, ◌⊎◌, ◌++◌, IfOk, OnOk, flat_map};
 ghost use Rattle.run_core_top.specs.Text.{spaced};
 ghost use Rattle.run_core_top.specs.declared.stop.Stop.TheVariants.{Memory};
-ghost use Rattle.run_core_top.specs.Outside.{Tells};
+ghost use Rattle.svsm_outside.specs.Outside.{Tells};
 ghost use Rattle.run_core_top.specs.Stops.{status_of, unbuilt_fields, stop_fields, stop_line};
 
-use crate::Sink;
 use crate::text::{put_newline, put_number, put_text, put_word};
-use crate::write::append_all;
 use std::alloc::Global;
+use svsm_outside::{Sink, append_all};
 use svsm_types::NoMemory;
 
 /// Why nothing, or not all, was written.
@@ -92,7 +91,7 @@ fn stop_line(alloc: Global, stop: Stop) -> Result<Vec<u8>, NoMemory>
 
 /// Writes a line, as far as the sink takes it.
 pub fn put_line<E: Sink>(err: &mut E, line: &[u8])
-    ensures { Tells (E.written err.old) (E.written err.new) (E.faults err.old) (E.faults err.new) line.now }
+    ensures { Tells (E.seen err.old) (E.seen err.new) line.now }
 {
     let _ = append_all(err, line);
 }
@@ -100,7 +99,7 @@ pub fn put_line<E: Sink>(err: &mut E, line: &[u8])
 /// Writes the line of a stop, as far as the sink takes it. Where there is no memory for it, that is the stop.
 pub fn tell_stop<E: Sink>(alloc: Global, err: &mut E, stop: Stop) -> Stop
     ensures same { (result ≡ stop) ⊎ (result ≡ Stop.Memory) }
-    ensures line { Tells (E.written err.old) (E.written err.new) (E.faults err.old) (E.faults err.new) (stop_line result) }
+    ensures line { Tells (E.seen err.old) (E.seen err.new) (stop_line result) }
 {
     match stop_line(alloc, stop) {
         Ok(line) => {

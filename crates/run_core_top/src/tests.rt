@@ -3,82 +3,10 @@ mod rows;
 use super::*;
 use crate::report::report_of;
 use crate::stop::{Stop, tell_stop};
-use crate::write::append_all;
+use std::io;
 use std::test::Fail;
-use std::{env, fs, process};
 use svsm_steps::{Answer, CoreEnd, CoreRun, Entry, Outcome, Step};
 use svsm_types::{Faulted, Gpa, Owner, Page, PageState, Perms, Regs, RmpRow, Sequence, Size, Vmpl};
-
-#[test]
-fn a_shelf_in_memory_loads_what_was_put(rt: HostRuntime) -> Result<(), Fail> {
-    let alloc = rt.alloc();
-    let mut shelf = MemoryShelf::new(alloc, &[2])?;
-    shelf.put_file("image", b"old")?;
-    shelf.put_file("image", b"new")?;
-    shelf.put_file("script", b"")?;
-    assert_eq!(rt;
-        shelf.load(alloc, "image", 3)?.as_slice(),
-        b"new".as_slice()
-    );
-    assert!(rt; matches!(shelf.load(alloc, "image", 2), Err(LoadError::TooLong)));
-    assert!(rt; matches!(shelf.load(alloc, "image", 3), Err(LoadError::Failed)));
-    assert!(rt; matches!(shelf.load(alloc, "other", 3), Err(LoadError::Failed)));
-    assert!(rt; shelf.load(alloc, "script", 0)?.is_empty());
-    Ok(())
-}
-
-#[test]
-fn a_sink_in_memory_fails_at_its_number_and_when_full(rt: HostRuntime) -> Result<(), Fail> {
-    let mut sink = MemorySink::new(rt.alloc(), 4, &[1])?;
-    assert_eq!(rt; sink.write(b"ab"), Ok(2));
-    assert_eq!(rt; sink.write(b"cd"), Err(Faulted));
-    assert_eq!(rt; sink.write(b"cde"), Ok(2));
-    assert_eq!(rt; sink.write(b"e"), Err(Faulted));
-    assert_eq!(rt; sink.bytes(), b"abcd".as_slice());
-    Ok(())
-}
-
-#[test]
-fn a_text_is_cut_off_where_the_sink_is_full(rt: HostRuntime) -> Result<(), Fail> {
-    let mut sink = MemorySink::new(rt.alloc(), 4, &[])?;
-    assert_eq!(rt; append_all(&mut sink, b"ab"), Ok(()));
-    assert_eq!(rt; append_all(&mut sink, b"cde"), Err(Faulted));
-    assert_eq!(rt; sink.bytes(), b"abcd".as_slice());
-    Ok(())
-}
-
-#[test]
-fn a_stream_takes_what_its_writer_takes(rt: HostRuntime) -> Result<(), Fail> {
-    let mut room = [0u8; 3];
-    let mut sink = StreamSink::new(room.as_mut_slice());
-    assert_eq!(rt; sink.write(b"ab"), Ok(2));
-    assert_eq!(rt; sink.write(b"cd"), Ok(1));
-    assert_eq!(rt; sink.write(b"d"), Err(Faulted));
-    Ok(())
-}
-
-#[test]
-fn a_file_is_loaded_whole(rt: HostRuntime) -> Result<(), Fail> {
-    let alloc = rt.alloc();
-    let folder = env::temp_dir(&rt)?;
-    let name = format!(in alloc;
-        "{}/svsm_file_{}",
-        folder.as_str(),
-        process::id(rt.process())
-    )?;
-    fs::write(&rt, name.as_str(), b"bytes")?;
-    let mut shelf = FileShelf::new(&rt);
-    assert_eq!(rt;
-        shelf.load(alloc, name.as_str(), 5)?.as_slice(),
-        b"bytes".as_slice()
-    );
-    let short = shelf.load(alloc, name.as_str(), 4);
-    assert!(rt; matches!(short, Err(LoadError::TooLong)));
-    fs::remove_file(&rt, name.as_str())?;
-    let gone = shelf.load(alloc, name.as_str(), 5);
-    assert!(rt; matches!(gone, Err(LoadError::Failed)));
-    Ok(())
-}
 
 // A page of the guest, as a report has it.
 fn guest_page(rights: u8) -> RmpRow {
@@ -173,5 +101,44 @@ fn a_stop_prints_its_line(rt: HostRuntime) -> Result<(), Fail> {
     );
     let lines = b"svsm_run: read 0x1\nsvsm_run: script 0x0 at 0x0 unbuilt\n";
     assert_eq!(rt; err.bytes(), lines.as_slice());
+    Ok(())
+}
+
+#[test]
+fn a_line_that_the_system_does_not_give_has_a_status(rt: HostRuntime) -> Result<(), Fail> {
+    let alloc = rt.alloc();
+    let kinds = [
+        (io::ErrorKind::InvalidData, 9),
+        (io::ErrorKind::OutOfMemory, 3),
+    ];
+    for (kind, status) in kinds {
+        let line = Err(io::Error::from(kind));
+        let mut shelf = MemoryShelf::new(alloc, &[])?;
+        let mut out = MemorySink::new(alloc, 0, &[])?;
+        let mut err = MemorySink::new(alloc, 0, &[])?;
+        let got = run_program(&rt, alloc, &line, &mut shelf, &mut out, &mut err, &OpenGate);
+        assert_eq!(rt; got, status);
+    }
+    Ok(())
+}
+
+#[test]
+fn the_name_of_the_program_is_no_word_of_the_command(rt: HostRuntime) -> Result<(), Fail> {
+    let alloc = rt.alloc();
+    let line = vec![in alloc; String::from_str(alloc, "run")?]?;
+    let mut shelf = MemoryShelf::new(alloc, &[])?;
+    let mut out = MemorySink::new(alloc, 0, &[])?;
+    let mut err = MemorySink::new(alloc, 4096, &[])?;
+    let status = run_program(
+        &rt,
+        alloc,
+        &Ok(line),
+        &mut shelf,
+        &mut out,
+        &mut err,
+        &OpenGate,
+    );
+    assert_eq!(rt; status, 2);
+    assert_eq!(rt; err.bytes(), b"svsm_run: words\n".as_slice());
     Ok(())
 }

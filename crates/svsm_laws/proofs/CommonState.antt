@@ -81,7 +81,7 @@ pub common_by : (b : Bool) (r old : RegionState) → IsCommon r → IsCommon old
 common_by true r old h k = h
 common_by false r old h k = k
 
-next_common : (kd : Kind) (constants : Constants) (state : State) (step : Step) (answer : Answer) → AreSized state
+pub next_common : (kd : Kind) (constants : Constants) (state : State) (step : Step) (answer : Answer) → AreSized state
     → AreCommon state
     → AreCommon (next_by kd constants state step answer)
 next_common region constants state step answer z h = λ number.

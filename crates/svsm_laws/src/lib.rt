@@ -6,6 +6,7 @@
 ghost use Rattle.svsm_laws.specs.Allowed.{AnswersAreDecided};
 ghost use Rattle.svsm_laws.specs.Answers.{StateIsDetermined, AnswerIsDetermined, AnswerExists, RunIsDetermined};
 ghost use Rattle.svsm_laws.specs.Booted.{BootedIsShut, SpansAcceptGuests, BootedIsAlwaysSafe};
+ghost use Rattle.svsm_laws.specs.Consistent.{BootedIsConsistent, StaysConsistent};
 ghost use Rattle.svsm_laws.specs.Examples.{PlatformExamples, StepExamples};
 ghost use Rattle.svsm_laws.specs.Follows.{PlacesFollow};
 ghost use Rattle.svsm_laws.specs.Mapped.{AnswersAreFormed, StaysMapped, BootedIsMapped};
@@ -147,6 +148,16 @@ pub fn stays_mapped()
 /// Blocks and rows of the booted state lie in the map.
 pub fn booted_is_mapped()
     ensures { BootedIsMapped }
+{}
+
+/// The booted state of a sound image is consistent: sized, shut, mapped, with rows, rights and validity in order.
+pub fn booted_is_consistent()
+    ensures { BootedIsConsistent }
+{}
+
+/// Entries with well-formed steps leave a consistent state consistent.
+pub fn stays_consistent()
+    ensures { StaysConsistent }
 {}
 
 /// Worked examples of the platform and of the steps, by computation.

@@ -44,9 +44,7 @@ struct Slow {
 }
 
 impl Sink for Slow {
-    ghost written = { λ s. Some s.sink.written.items };
-
-    ghost faults = { λ s. s.sink.faults };
+    ghost seen = { λ s. record { written = Some s.sink.written.items; faults = s.sink.faults } };
 
     fn write(&mut self, bytes: &[u8]) -> Result<usize, Faulted> {
         let count = bytes.len().min(7);

@@ -1,0 +1,20 @@
+-- The command as `clap` sees it.
+use Rattle.std.specs.Prelude.{[], ◌∷◌, true, Some, codes}
+use Rattle.clap.specs.Walk.{Rule}
+use Rattle.clap.specs.Simple.{App, Shape, new_rule, new_shape, with_subcommand}
+use Rattle.clap.specs.declared.builder.action.ArgAction.TheVariants.{Set, Append, SetTrue}
+
+abbrev pub brief_rule : Rule
+brief_rule = record (new_rule (codes "brief")) { long = Some (codes "brief"); action = Some SetTrue }
+
+abbrev pub image_rule : Rule
+image_rule = record (new_rule (codes "image")) { required = true; action = Some Set }
+
+abbrev pub scripts_rule : Rule
+scripts_rule = record (new_rule (codes "scripts")) { required = true; action = Some Append }
+
+abbrev pub run_shape : Shape
+run_shape = record (new_shape (codes "run")) { rules = brief_rule ∷ image_rule ∷ scripts_rule ∷ [] }
+
+abbrev pub run_app : App
+run_app = with_subcommand (record { top = record (new_shape (codes "svsm_run")) { no_binary_name = true }; subs = [] }) run_shape
