@@ -1,4 +1,0 @@
-pub mod Record
-pub mod Grammar
-pub mod Tells
-pub mod Written
