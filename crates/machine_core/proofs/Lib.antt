@@ -1,3 +1,11 @@
+pub mod CalmLemmas
 pub mod RowLemmas
+pub mod PoolLemmas
+pub mod KindLemmas
 pub mod RegionLemmas
+pub mod PlayLemmas
+pub mod SoundLemmas
 pub mod BootLemmas
+pub mod OpenLemmas
+pub mod ImageLemmas
+pub mod FollowLemmas

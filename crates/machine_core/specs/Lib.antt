@@ -1,5 +1,8 @@
+pub mod PoolView
 pub mod Views
+pub mod Numbered
 pub mod Performed
-pub mod Moved
-pub mod Built
-pub mod Plain
+pub mod Boots
+pub mod Pools
+pub mod Bootable
+pub mod Played

@@ -1,41 +1,24 @@
--- The state that the plain tables stand for.
-use Rattle.std.specs.Prelude.{ℕ, unwrap_or, List, map, slice_get, length}
+-- The state that the machine stands for.
+use Rattle.std.specs.Prelude.{ℕ, List, [], slice_get, length}
 use Rattle.std.specs.Option.{option_map_or}
-use Rattle.std.specs.Ordering.{nat_cmp}
-use Rattle.std.specs.BTreeMap.{BTreeMap, get}
-use Rattle.svsm_types.specs.Hardware.{Platform}
-use Rattle.svsm_types.specs.declared.address.Page.{Page}
-use Rattle.svsm_types.specs.declared.platform.Size.{Size}
-use Rattle.svsm_steps.specs.State.{State, Constants, RegionState, Block}
+use Rattle.svsm_types.specs.Numbers.{Numbers}
+use Rattle.svsm_steps.specs.State.{State, Constants, RegionState}
 use Rattle.svsm_steps.specs.Image.{no_region}
-use Rattle.machine_core.specs.declared.region.RegionTable.{RegionTable}
+use Rattle.machine_region.specs.Views.{region_view}
+use Rattle.machine_region.specs.Operations.{numbers_view}
+use Rattle.machine_region.specs.declared.region.RegionTable.{RegionTable}
+use Rattle.machine_region.specs.declared.operations.Operations.{Operations}
+use Rattle.machine_core.specs.PoolView.{blocks_view}
 use Rattle.machine_core.specs.declared.machine.Machine.{Machine}
-
--- an absent word is 0
-abbrev pub word_of : BTreeMap ℕ ℕ → ℕ → ℕ
-word_of words address = unwrap_or (get nat_cmp words address) 0
-
-abbrev pub region_view : RegionTable → RegionState
-region_view table = record {
-  hw = record { pages = table.pages.items; large = table.large; words = word_of table.words };
-  owner = table.owners.items;
-  recorded = table.recorded.items;
-}
-
-abbrev pub with_hw : Platform → RegionState → RegionState
-with_hw hw r = record r { hw = hw }
 
 -- each region by its number; outside the map there is nothing
 abbrev pub region_at : List RegionTable → ℕ → RegionState
 region_at tables number = option_map_or region_view (slice_get tables number) no_region
 
-abbrev pub block_view : Page × Size → Block
-block_view block = record { page = block.0; size = block.1 }
-
 abbrev pub state_of : Machine → State
 state_of machine = record {
   regions = region_at machine.regions.items;
-  pool = map block_view machine.blocks.items;
+  pool = blocks_view machine.blocks.items;
   rows = machine.rows.items;
 }
 
@@ -46,3 +29,13 @@ constants_of machine = record {
   features = machine.features;
   apics = machine.apics.items;
 }
+
+-- the operation numbers of each region; outside the map none is made or listed
+abbrev pub no_numbers : Numbers
+no_numbers = record { made = 0; faulting = [] }
+
+abbrev pub numbers_at : List Operations → ℕ → Numbers
+numbers_at all number = option_map_or numbers_view (slice_get all number) no_numbers
+
+abbrev pub numbers_of : Machine → ℕ → Numbers
+numbers_of machine = numbers_at machine.operations.items

@@ -1,13 +1,21 @@
-//! The plain machine: one state in plain tables, and its steps.
+//! The plain machine: one state in plain tables, its steps, and histories of them.
 #![tactic(auto)]
 
-mod access;
+mod accept;
 mod boot;
-mod cells;
+mod fills;
+mod history;
+mod kinds;
 mod machine;
-mod region;
+mod numbers;
+mod opening;
+mod paging;
+mod play_error;
+mod pool;
 mod rows;
-mod steps;
-mod words;
+mod seats;
+mod step;
 
+pub use history::play;
 pub use machine::Machine;
+pub use play_error::PlayError;

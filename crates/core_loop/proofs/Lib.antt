@@ -1,0 +1,5 @@
+pub mod Calls
+pub mod Pieces
+pub mod Results
+pub mod Given
+pub mod RunAnswers

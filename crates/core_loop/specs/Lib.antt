@@ -1,0 +1,4 @@
+pub mod Counts
+pub mod Begun
+pub mod Ends
+pub mod Script

@@ -1,0 +1,156 @@
+//! Whole histories.
+ghost use Rattle.std.specs.Prelude.{◌≡◌, ◌≤◌, ◌+◌, ◌↔◌, length, IfOk, OnOk, OnErr, IfErr, true, IsTrue, ℕ};
+ghost use Rattle.svsm_steps.specs.Region.{fault_at};
+ghost use Rattle.svsm_steps.specs.Formed.{IsWellFormed, AreWellFormed};
+ghost use Rattle.svsm_steps.specs.DueFaults.{numbers_after};
+ghost use Rattle.svsm_steps.specs.NextEntry.{numbers_after_all};
+ghost use Rattle.svsm_steps.specs.Machine.{IsRunFrom, state_after, kind, next_by};
+ghost use Rattle.machine_core.specs.Views.{state_of, constants_of, numbers_of};
+ghost use Rattle.svsm_steps.specs.Sound.{IsSound};
+ghost use Rattle.svsm_steps.specs.Safe.{AlwaysSafe};
+ghost use Rattle.svsm_steps.specs.Image.{booted, booted_numbers, constants_of as constants_in};
+ghost use Rattle.machine_region.specs.Kinds.{is_of_region, is_of_pool, is_of_registry};
+ghost use Rattle.machine_core.specs.Performed.{PerformsAs};
+ghost use Rattle.machine_core.specs.Played.{Follows, FailsAt, Fails};
+
+use crate::kinds::{is_of_pool, is_of_region};
+use crate::play_error::PlayError;
+use crate::{Machine, pool, rows};
+use std::alloc::Global;
+use svsm_steps::{Answer, Entry, Step, place_of};
+use svsm_types::Image;
+
+// The micro-operation at which an answer says that a fault struck.
+fn fault_at(answer: &Answer) -> Option<u8>
+    ensures { result ≡ fault_at answer.now }
+{
+    match *answer {
+        Answer::Fault { done } => Some(done),
+        _ => None,
+    }
+}
+
+fn same_answer(one: &Answer, other: &Answer) -> bool
+    ensures { IsTrue result ↔ (one.now ≡ other.now) }
+{
+    *one == *other
+}
+
+impl Machine {
+    /// The answer of a step in which at most one micro-operation is struck by a fault.
+    fn answer(&self, step: &Step, struck: Option<u8>) -> Answer
+        requires { IsWellFormed (constants_of self.now).regions step.now }
+        ensures { PerformsAs struck (constants_of self.now) (state_of self.now) step.now result (next_by (kind step.now) (constants_of self.now) (state_of self.now) step.now result) }
+    {
+        if is_of_region(step) {
+            self.region_answer(step, struck)
+        } else if is_of_pool(step) {
+            self.pool_answer(step, struck)
+        } else {
+            self.registry_answer(step, struck)
+        }
+    }
+
+    fn region_answer(&self, step: &Step, struck: Option<u8>) -> Answer
+        requires formed { IsWellFormed (constants_of self.now).regions step.now }
+        requires region { is_of_region step.now ≡ true }
+        ensures { PerformsAs struck (constants_of self.now) (state_of self.now) step.now result (next_by (kind step.now) (constants_of self.now) (state_of self.now) step.now result) }
+    {
+        let place = place_of(self.regions.len() as u64, step);
+        self.regions[place as usize].answer(step, struck)
+    }
+
+    fn pool_answer(&self, step: &Step, struck: Option<u8>) -> Answer
+        requires { is_of_pool step.now ≡ true }
+        ensures { PerformsAs struck (constants_of self.now) (state_of self.now) step.now result (next_by (kind step.now) (constants_of self.now) (state_of self.now) step.now result) }
+    {
+        pool::answer(&self.blocks, step)
+    }
+
+    fn registry_answer(&self, step: &Step, struck: Option<u8>) -> Answer
+        requires { is_of_registry step.now ≡ true }
+        ensures { PerformsAs struck (constants_of self.now) (state_of self.now) step.now result (next_by (kind step.now) (constants_of self.now) (state_of self.now) step.now result) }
+    {
+        rows::answer(&self.rows, self.apics.as_slice(), step)
+    }
+
+    /// Carries out one entry of a history, at which this ticket is wanted. An error leaves the machine as it was.
+    pub(crate) fn follow(
+        &mut self,
+        _alloc: Global,
+        want: u64,
+        entry: &Entry,
+    ) -> Result<(), PlayError>
+        requires { IsWellFormed (constants_of self.old).regions entry.now.step }
+        ensures ok { OnOk result (Follows (constants_of self.old) want (state_of self.old) entry.now (state_of self.new)) }
+        ensures err { IfErr result (λ error. FailsAt (constants_of self.old) want (state_of self.old) entry.now error) }
+        ensures numbers { OnOk result (numbers_of self.new ≡ numbers_after (kind entry.now.step) (constants_of self.old) (numbers_of self.old) (state_of self.old) entry.now.step entry.now.answer) }
+        ensures stays { OnErr result (state_of self.new ≡ state_of self.old) }
+        ensures kept { OnErr result (numbers_of self.new ≡ numbers_of self.old) }
+        ensures constants { constants_of self.new ≡ constants_of self.old }
+    {
+        if entry.ticket != want {
+            return Err(PlayError::Gap {
+                want,
+                got: entry.ticket,
+            });
+        }
+        let place = place_of(self.regions.len() as u64, &entry.step);
+        if entry.place != place {
+            return Err(PlayError::Place {
+                ticket: entry.ticket,
+                want: place,
+                got: entry.place,
+            });
+        }
+        let struck = fault_at(&entry.answer);
+        let computed = self.answer(&entry.step, struck);
+        if !same_answer(&computed, &entry.answer) {
+            return Err(PlayError::Illegal {
+                ticket: entry.ticket,
+                kept: entry.answer,
+                computed,
+            });
+        }
+        let _ = self.step_as(&entry.step, struck)?;
+        Ok(())
+    }
+
+    /// Carries out the entries of a history, of which the first has the ticket 0.
+    pub(crate) fn carry_all(&mut self, alloc: Global, run: &[Entry]) -> Result<(), PlayError>
+        requires { AreWellFormed (constants_of self.old).regions run.now }
+        ensures ok { OnOk result (IsRunFrom (constants_of self.old) 0 (state_of self.old) run.now) }
+        ensures state { OnOk result (state_of self.new ≡ state_after (constants_of self.old) (state_of self.old) run.now) }
+        ensures numbers { OnOk result (numbers_of self.new ≡ numbers_after_all (constants_of self.old) (numbers_of self.old) (state_of self.old) run.now) }
+        ensures err { IfErr result (λ error. Fails (constants_of self.old) 0 (state_of self.old) run.now error) }
+        ensures constants { constants_of self.new ≡ constants_of self.old }
+    {
+        let mut want = 0;
+        let mut rest = run;
+        'run: while let [entry, after @ ..] = rest {
+            self.follow(alloc, want, entry)?;
+            want += 1;
+            rest = after;
+        }
+        Ok(())
+    }
+}
+
+#[tactic(auto, using(crate::proofs::PlayLemmas::no_memory))]
+/// Plays a history from the booted machine of an image. It does not look at scripts or at the faults that the image lists.
+pub fn play(alloc: Global, image: &Image, run: &[Entry]) -> Result<Machine, PlayError>
+    requires image { IsSound image.now }
+    requires formed { AreWellFormed image.now.regions run.now }
+    ensures run { IfOk result (λ machine. IsRunFrom (constants_in image.now) 0 (booted image.now) run.now) }
+    ensures state { IfOk result (λ machine. state_of machine ≡ state_after (constants_in image.now) (booted image.now) run.now) }
+    ensures numbers { IfOk result (λ machine. numbers_of machine ≡ numbers_after_all (constants_in image.now) (booted_numbers image.now) (booted image.now) run.now) }
+    ensures constants { IfOk result (λ machine. constants_of machine ≡ constants_in image.now) }
+    ensures safe { IfOk result (λ machine. AlwaysSafe (constants_in image.now) (booted image.now) run.now) }
+    ensures err { IfErr result (λ error. Fails (constants_in image.now) 0 (booted image.now) run.now error) }
+{
+    let Ok(mut machine) = Machine::of_image(alloc, image) else {
+        return Err(PlayError::NoMemory);
+    };
+    machine.carry_all(alloc, run)?;
+    Ok(machine)
+}

@@ -1,0 +1,146 @@
+//! The steps of the machine.
+ghost use Rattle.std.specs.Prelude.{◌≡◌, ◌≤◌, ◌<◌, ◌*◌, length, IfOk, OnErr, true};
+ghost use Rattle.svsm_steps.specs.State.{row_at};
+ghost use Rattle.svsm_steps.specs.Formed.{IsWellFormed};
+ghost use Rattle.svsm_steps.specs.Machine.{kind, own_region};
+ghost use Rattle.svsm_steps.specs.DueFaults.{numbers_after};
+ghost use Rattle.machine_region.specs.Kinds.{is_of_region, is_of_pool, is_of_registry};
+ghost use Rattle.machine_region.specs.Operations.{Makes};
+ghost use Rattle.machine_core.specs.Boots.{counted_at};
+ghost use Rattle.machine_core.specs.Performed.{Performs, PerformsAs, listed_at};
+ghost use Rattle.machine_core.specs.Views.{state_of, constants_of, numbers_of};
+
+use crate::kinds::{is_of_pool, is_of_region};
+use crate::{Machine, pool, rows};
+use machine_region::Carried;
+use std::alloc::Global;
+use svsm_steps::{Answer, Step, place_of};
+use svsm_types::{NoMemory, Page, RmpRow, Row, region_of};
+
+impl Machine {
+    fn carry_out(&mut self, step: &Step, struck: Option<u8>) -> Result<Carried, NoMemory>
+        requires formed { IsWellFormed (constants_of self.old).regions step.now }
+        requires region { is_of_region step.now ≡ true }
+        ensures ok { IfOk result (λ carried. PerformsAs struck (constants_of self.old) (state_of self.old) step.now carried.answer (state_of self.new)) }
+        ensures makes { IfOk result (λ carried. Makes (own_region (constants_of self.old) step.now (state_of self.old)) step.now carried.answer carried.operations) }
+        ensures err { OnErr result (state_of self.new ≡ state_of self.old) }
+        ensures numbers { numbers_of self.new ≡ numbers_of self.old }
+        ensures constants { constants_of self.new ≡ constants_of self.old }
+    {
+        let place = place_of(self.regions.len() as u64, step);
+        self.regions[place as usize].step(step, struck)
+    }
+
+    fn count(&mut self, region: u64, operations: u8)
+        requires { region < (constants_of self.old).regions }
+        ensures numbers { numbers_of self.new ≡ counted_at region operations (numbers_of self.old) }
+        ensures state { state_of self.new ≡ state_of self.old }
+        ensures constants { constants_of self.new ≡ constants_of self.old }
+    {
+        self.operations[region as usize].count(operations);
+    }
+
+    fn region_step(&mut self, step: &Step, struck: Option<u8>) -> Result<Answer, NoMemory>
+        requires formed { IsWellFormed (constants_of self.old).regions step.now }
+        requires region { is_of_region step.now ≡ true }
+        ensures ok { IfOk result (λ answer. PerformsAs struck (constants_of self.old) (state_of self.old) step.now answer (state_of self.new)) }
+        ensures numbers { IfOk result (λ answer. numbers_of self.new ≡ numbers_after (kind step.now) (constants_of self.old) (numbers_of self.old) (state_of self.old) step.now answer) }
+        ensures err { OnErr result (state_of self.new ≡ state_of self.old) }
+        ensures kept { OnErr result (numbers_of self.new ≡ numbers_of self.old) }
+        ensures constants { constants_of self.new ≡ constants_of self.old }
+    {
+        let carried = self.carry_out(step, struck)?;
+        let place = place_of(self.regions.len() as u64, step);
+        self.count(place, carried.operations);
+        Ok(carried.answer)
+    }
+
+    fn pool_step(&mut self, step: &Step, struck: Option<u8>) -> Result<Answer, NoMemory>
+        requires { is_of_pool step.now ≡ true }
+        ensures ok { IfOk result (λ answer. PerformsAs struck (constants_of self.old) (state_of self.old) step.now answer (state_of self.new)) }
+        ensures numbers { IfOk result (λ answer. numbers_of self.new ≡ numbers_after (kind step.now) (constants_of self.old) (numbers_of self.old) (state_of self.old) step.now answer) }
+        ensures err { OnErr result (state_of self.new ≡ state_of self.old) }
+        ensures kept { OnErr result (numbers_of self.new ≡ numbers_of self.old) }
+        ensures constants { constants_of self.new ≡ constants_of self.old }
+    {
+        pool::step(&mut self.blocks, step)
+    }
+
+    fn registry_step(&mut self, step: &Step, struck: Option<u8>) -> Result<Answer, NoMemory>
+        requires { is_of_registry step.now ≡ true }
+        ensures ok { IfOk result (λ answer. PerformsAs struck (constants_of self.old) (state_of self.old) step.now answer (state_of self.new)) }
+        ensures numbers { IfOk result (λ answer. numbers_of self.new ≡ numbers_after (kind step.now) (constants_of self.old) (numbers_of self.old) (state_of self.old) step.now answer) }
+        ensures err { OnErr result (state_of self.new ≡ state_of self.old) }
+        ensures kept { OnErr result (numbers_of self.new ≡ numbers_of self.old) }
+        ensures constants { constants_of self.new ≡ constants_of self.old }
+    {
+        rows::step(&mut self.rows, self.apics.as_slice(), step)
+    }
+
+    /// Carries out a step, in which at most one micro-operation is struck by a fault.
+    pub(crate) fn step_as(&mut self, step: &Step, struck: Option<u8>) -> Result<Answer, NoMemory>
+        requires formed { IsWellFormed (constants_of self.old).regions step.now }
+        ensures ok { IfOk result (λ answer. PerformsAs struck (constants_of self.old) (state_of self.old) step.now answer (state_of self.new)) }
+        ensures numbers { IfOk result (λ answer. numbers_of self.new ≡ numbers_after (kind step.now) (constants_of self.old) (numbers_of self.old) (state_of self.old) step.now answer) }
+        ensures err { OnErr result (state_of self.new ≡ state_of self.old) }
+        ensures kept { OnErr result (numbers_of self.new ≡ numbers_of self.old) }
+        ensures constants { constants_of self.new ≡ constants_of self.old }
+    {
+        if is_of_region(step) {
+            self.region_step(step, struck)
+        } else if is_of_pool(step) {
+            self.pool_step(step, struck)
+        } else {
+            self.registry_step(step, struck)
+        }
+    }
+
+    fn region_listed(&self, step: &Step) -> Option<u8>
+        requires formed { IsWellFormed (constants_of self.now).regions step.now }
+        requires region { is_of_region step.now ≡ true }
+        ensures { result ≡ listed_at (kind step.now) (constants_of self.now) (numbers_of self.now) (state_of self.now) step.now }
+    {
+        let place = place_of(self.regions.len() as u64, step);
+        self.regions[place as usize].first_listed(step, &self.operations[place as usize])
+    }
+
+    // The micro-operation at which a listed operation strikes a step.
+    fn listed(&self, step: &Step) -> Option<u8>
+        requires formed { IsWellFormed (constants_of self.now).regions step.now }
+        ensures { result ≡ listed_at (kind step.now) (constants_of self.now) (numbers_of self.now) (state_of self.now) step.now }
+    {
+        if is_of_region(step) {
+            self.region_listed(step)
+        } else {
+            None
+        }
+    }
+
+    /// The machine's one answer. Want of memory leaves the machine as it was.
+    pub fn step(&mut self, _alloc: Global, step: &Step) -> Result<Answer, NoMemory>
+        requires { IsWellFormed (constants_of self.old).regions step.now }
+        ensures ok { IfOk result (λ answer. Performs (constants_of self.old) (numbers_of self.old) (state_of self.old) step.now answer (state_of self.new)) }
+        ensures numbers { IfOk result (λ answer. numbers_of self.new ≡ numbers_after (kind step.now) (constants_of self.old) (numbers_of self.old) (state_of self.old) step.now answer) }
+        ensures err { OnErr result (state_of self.new ≡ state_of self.old) }
+        ensures kept { OnErr result (numbers_of self.new ≡ numbers_of self.old) }
+        ensures constants { constants_of self.new ≡ constants_of self.old }
+    {
+        let struck = self.listed(step);
+        self.step_as(step, struck)
+    }
+
+    /// All that stands of a page.
+    pub fn row(&self, page: Page) -> RmpRow
+        requires { page.0 < 512 * (constants_of self.now).regions }
+        ensures { result ≡ row_at page.0 (state_of self.now) }
+    {
+        self.regions[region_of(page) as usize].row(page)
+    }
+
+    /// The vCPUs, in the order of their reservation.
+    pub fn vcpus(&self) -> &[Row]
+        ensures { result.now ≡ (state_of self.now).rows }
+    {
+        &self.rows
+    }
+}

@@ -1,0 +1,9 @@
+pub mod WordLemmas
+pub mod PageLemmas
+pub mod FillLemmas
+pub mod RunLemmas
+pub mod CalmLemmas
+pub mod ActLemmas
+pub mod FrozenLemmas
+pub mod ForeseenLemmas
+pub mod ValidationLemmas

@@ -1,0 +1,10 @@
+pub mod Micros
+pub mod Words
+pub mod Views
+pub mod Kinds
+pub mod Room
+pub mod Acted
+pub mod Operations
+pub mod Foreseen
+pub mod Performed
+pub mod Opened

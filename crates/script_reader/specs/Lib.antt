@@ -1,0 +1,4 @@
+pub mod Record
+pub mod Grammar
+pub mod Tells
+pub mod Written
