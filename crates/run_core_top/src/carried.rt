@@ -14,7 +14,7 @@ use std::sync::Wait;
 use svsm_outside::Shelf;
 use svsm_steps::{CoreEnd, CoreRun, Entry, Gate};
 use svsm_types::{NoMemory, Sequence};
-use svsm_waves::{WholeRun, run_image};
+use svsm_waves::{ImageRun, run_image};
 
 /// A history, the report on it, and the status of the program once it is written.
 #[derive(Drop)]
@@ -46,14 +46,20 @@ fn status_by(cores: &[CoreRun]) -> u8
 }
 
 // Reports on a run.
-fn report_on(alloc: Global, brief: bool, run: WholeRun) -> Result<Report, NoMemory>
+fn report_on(alloc: Global, brief: bool, run: ImageRun) -> Result<Report, NoMemory>
     ensures trace { IfOk result (λ report. report.trace ≡ run.trace) }
-    ensures text { IfOk result (λ report. report.text.items ≡ report_text brief run.cores.items run.trace run.rows.items) }
-    ensures status { IfOk result (λ report. report.status ≡ status_by run.cores.items) }
+    ensures text { IfOk result (λ report. report.text.items ≡ report_text brief run.cores run.trace run.rows) }
+    ensures status { IfOk result (λ report. report.status ≡ status_by run.cores) }
 {
-    let text = report_of(alloc, brief, &run.cores, run.trace.as_slice(), &run.rows)?;
+    let text = report_of(
+        alloc,
+        brief,
+        run.cores.as_slice(),
+        run.trace.as_slice(),
+        run.rows.as_slice(),
+    )?;
     Ok(Report {
-        status: status_by(&run.cores),
+        status: status_by(run.cores.as_slice()),
         trace: run.trace,
         text,
     })
