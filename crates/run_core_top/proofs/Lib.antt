@@ -1,12 +1,4 @@
 pub mod PageLemmas
-pub mod ScriptLemmas
-pub mod CauseLemmas
-pub mod RecordedLemmas
-pub mod NeverFaults
-pub mod AnswerLemmas
-pub mod ServedLemmas
-pub mod CoreLemmas
-pub mod RunLemmas
-pub mod EndLemmas
-pub mod PlainLemmas
+pub mod BaseImage
+pub mod FileLemmas
 pub mod TopLemmas

@@ -2,16 +2,9 @@ pub mod Text
 pub mod History
 pub mod Pages
 pub mod Report
-pub mod Words
-pub mod Commands
-pub mod Script
 pub mod Image
+pub mod Files
 pub mod Stops
 pub mod Causes
-pub mod Recorded
-pub mod Served
-pub mod Carried
-pub mod Base
-pub mod BaseRun
 pub mod Headline
 pub mod Program

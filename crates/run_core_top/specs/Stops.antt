@@ -1,5 +1,9 @@
 -- The status and the line of each refusal.
 use Rattle.std.specs.Prelude.{ℕ, List, [], ◌∷◌, codes}
+use Rattle.script_reader.specs.declared.error.ScriptKind.{ScriptKind}
+use Rattle.script_reader.specs.declared.error.ScriptKind.TheVariants as scripts
+use Rattle.run_core_top.specs.declared.image.ImageKind.{ImageKind}
+use Rattle.run_core_top.specs.declared.image.ImageKind.TheVariants as images
 use Rattle.run_core_top.specs.declared.stop.Stop.{Stop}
 use Rattle.run_core_top.specs.declared.stop.Stop.TheVariants as stops
 use Rattle.run_core_top.specs.Text.{number, line}
@@ -7,21 +11,31 @@ use Rattle.run_core_top.specs.Text.{number, line}
 abbrev pub status_of : Stop → ℕ
 status_of stops.Words = 2
 status_of stops.Memory = 3
-status_of stops.Image = 4
-status_of (stops.Script core) = 4
+status_of (stops.Image at k) = 4
+status_of (stops.Script core at k) = 4
 status_of (stops.Read file) = 5
 status_of stops.Write = 6
 
--- the place and the kind of a refused file, which is not read further
-abbrev pub unbuilt_fields : List ℕ → List (List ℕ)
-unbuilt_fields place = place ∷ number 0 ∷ codes "unbuilt" ∷ []
+-- the word of each kind of refusal
+
+abbrev pub image_word : ImageKind → List ℕ
+image_word images.Unbuilt = codes "unbuilt"
+
+abbrev pub script_word : ScriptKind → List ℕ
+script_word scripts.Length = codes "length"
+script_word scripts.Count = codes "count"
+script_word scripts.Kind = codes "kind"
+script_word scripts.Vmpl = codes "vmpl"
+script_word scripts.Align = codes "align"
+script_word scripts.Long = codes "long"
+script_word scripts.Core = codes "core"
 
 -- what follows the program's name
 abbrev pub stop_fields : Stop → List (List ℕ)
 stop_fields stops.Words = codes "words" ∷ []
 stop_fields stops.Memory = codes "memory" ∷ []
-stop_fields stops.Image = codes "image" ∷ unbuilt_fields (codes "line")
-stop_fields (stops.Script core) = codes "script" ∷ number core ∷ unbuilt_fields (codes "at")
+stop_fields (stops.Image at k) = codes "image" ∷ codes "line" ∷ number at ∷ image_word k ∷ []
+stop_fields (stops.Script core at k) = codes "script" ∷ number core ∷ codes "at" ∷ number at ∷ script_word k ∷ []
 stop_fields (stops.Read file) = codes "read" ∷ number file ∷ []
 stop_fields stops.Write = codes "write" ∷ []
 

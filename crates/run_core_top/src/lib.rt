@@ -1,23 +1,17 @@
 //! The top call. It gives on the outside that it works on.
 #![tactic(auto)]
 
-mod base_run;
-mod core_run;
-mod decode;
+mod carried;
 mod history;
 mod image;
 mod load;
 mod open_gate;
 mod pages;
 mod program;
-mod recorder;
 mod report;
-mod script;
-mod served;
 mod stop;
 mod text;
 mod top;
-mod words;
 
 pub use open_gate::OpenGate;
 pub use program::run_program;

@@ -3,9 +3,11 @@ ghost use Rattle.std.specs.Prelude.{◌≡◌, ◌⊎◌, ◌++◌, IfOk, OnOk, 
 ghost use Rattle.run_core_top.specs.Text.{spaced};
 ghost use Rattle.run_core_top.specs.declared.stop.Stop.TheVariants.{Memory};
 ghost use Rattle.svsm_outside.specs.Outside.{Tells};
-ghost use Rattle.run_core_top.specs.Stops.{status_of, unbuilt_fields, stop_fields, stop_line};
+ghost use Rattle.run_core_top.specs.Stops.{status_of, image_word, script_word, stop_fields, stop_line};
 
+use crate::image::ImageKind;
 use crate::text::{put_newline, put_number, put_text, put_word};
+use script_reader::ScriptKind;
 use std::alloc::Global;
 use svsm_outside::{Sink, append_all};
 use svsm_types::NoMemory;
@@ -16,10 +18,10 @@ pub enum Stop {
     /// The words are not of the form.
     Words,
     Memory,
-    /// The image is too long or not the one that is read.
-    Image,
-    /// The script of this core is too long or not of the form.
-    Script(u64),
+    /// The image is too long or not of the grammar. The line counts from 1; 0 is the whole.
+    Image { line: u64, kind: ImageKind },
+    /// The script of this core is too long or not of the form, from this record on; or there is no such core.
+    Script { core: u64, at: u64, kind: ScriptKind },
     /// The load of a file failed: 0 is the image, 1 + i the script of core i.
     Read(u64),
     /// A write of the report failed.
@@ -40,19 +42,32 @@ pub fn status_of(stop: Stop) -> u8
     match stop {
         Stop::Words => 2,
         Stop::Memory => 3,
-        Stop::Image | Stop::Script(_) => 4,
+        Stop::Image { .. } | Stop::Script { .. } => 4,
         Stop::Read(_) => 5,
         Stop::Write => 6,
     }
 }
 
-// The place and the kind of a refused file.
-fn put_unbuilt(out: &mut Vec<u8>, place: &str) -> Result<(), NoMemory>
-    ensures { OnOk result (out.new.items ≡ out.old.items ++ flat_map spaced (unbuilt_fields place.now)) }
+fn image_word(kind: ImageKind) -> &'static str
+    ensures { result.now ≡ image_word kind }
 {
-    put_word(out, place)?;
-    put_number(out, 0)?;
-    put_word(out, "unbuilt")
+    match kind {
+        ImageKind::Unbuilt => "unbuilt",
+    }
+}
+
+fn script_word(kind: ScriptKind) -> &'static str
+    ensures { result.now ≡ script_word kind }
+{
+    match kind {
+        ScriptKind::Length => "length",
+        ScriptKind::Count => "count",
+        ScriptKind::Kind => "kind",
+        ScriptKind::Vmpl => "vmpl",
+        ScriptKind::Align => "align",
+        ScriptKind::Long => "long",
+        ScriptKind::Core => "core",
+    }
 }
 
 fn put_fields(out: &mut Vec<u8>, stop: Stop) -> Result<(), NoMemory>
@@ -61,14 +76,18 @@ fn put_fields(out: &mut Vec<u8>, stop: Stop) -> Result<(), NoMemory>
     match stop {
         Stop::Words => put_word(out, "words"),
         Stop::Memory => put_word(out, "memory"),
-        Stop::Image => {
+        Stop::Image { line, kind } => {
             put_word(out, "image")?;
-            put_unbuilt(out, "line")
+            put_word(out, "line")?;
+            put_number(out, line)?;
+            put_word(out, image_word(kind))
         }
-        Stop::Script(core) => {
+        Stop::Script { core, at, kind } => {
             put_word(out, "script")?;
             put_number(out, core)?;
-            put_unbuilt(out, "at")
+            put_word(out, "at")?;
+            put_number(out, at)?;
+            put_word(out, script_word(kind))
         }
         Stop::Read(file) => {
             put_word(out, "read")?;

@@ -1,12 +1,28 @@
+mod outside;
 mod rows;
 
 use super::*;
+use crate::image::ImageKind;
 use crate::report::report_of;
 use crate::stop::{Stop, tell_stop};
+use script_reader::ScriptKind;
+use std::alloc::Global;
 use std::io;
 use std::test::Fail;
 use svsm_steps::{Answer, CoreEnd, CoreRun, Entry, Outcome, Step};
 use svsm_types::{Faulted, Gpa, Owner, Page, PageState, Perms, Regs, RmpRow, Sequence, Size, Vmpl};
+
+const IMAGE: &[u8] =
+    b"svsm-image 1\nregions 0x2\nvmpl 0x2\nfeatures 0x1\nghcb 0x5\nrange 0x0 0x5 module valid 0x0\nrange 0x5 0x1 module assigned 0x0\nrange 0x6 0xa module valid 0x0\nrange 0x10 0x1 vmsa valid 0x0\nrange 0x11 0x1ef guest valid 0xf0\nrange 0x200 0x200 guest assigned 0x0\ncore 0x0 vmsa 0x10000 caa 0x20000\ncore 0x1 parked\n";
+
+// The words of a line, with one space between two.
+fn words_of(alloc: Global, line: &str) -> Result<Vec<String>, Fail> {
+    let mut all = Vec::new(alloc);
+    for word in line.split(' ') {
+        all.push(String::from_str(alloc, word)?)?;
+    }
+    Ok(all)
+}
 
 // A page of the guest, as a report has it.
 fn guest_page(rights: u8) -> RmpRow {
@@ -91,16 +107,46 @@ fn a_report_has_cores_history_and_page_runs(rt: HostRuntime) -> Result<(), Fail>
 }
 
 #[test]
-fn a_stop_prints_its_line(rt: HostRuntime) -> Result<(), Fail> {
+fn each_stop_prints_its_line(rt: HostRuntime) -> Result<(), Fail> {
     let alloc = rt.alloc();
-    let mut err = MemorySink::new(alloc, 4096, &[])?;
-    assert_eq!(rt; tell_stop(alloc, &mut err, Stop::Read(1)), Stop::Read(1));
-    assert_eq!(rt;
-        tell_stop(alloc, &mut err, Stop::Script(0)),
-        Stop::Script(0)
-    );
-    let lines = b"svsm_run: read 0x1\nsvsm_run: script 0x0 at 0x0 unbuilt\n";
-    assert_eq!(rt; err.bytes(), lines.as_slice());
+    let kinds = [
+        (ScriptKind::Length, "length"),
+        (ScriptKind::Count, "count"),
+        (ScriptKind::Kind, "kind"),
+        (ScriptKind::Vmpl, "vmpl"),
+        (ScriptKind::Align, "align"),
+        (ScriptKind::Long, "long"),
+        (ScriptKind::Core, "core"),
+    ];
+    for (kind, word) in kinds {
+        let mut err = MemorySink::new(alloc, 4096, &[])?;
+        let stop = Stop::Script {
+            core: 0x1f,
+            at: 2,
+            kind,
+        };
+        assert_eq!(rt; tell_stop(alloc, &mut err, stop), stop);
+        let line = format!(in alloc; "svsm_run: script 0x1f at 0x2 {word}\n")?;
+        assert_eq!(rt; err.bytes(), line.as_bytes());
+    }
+    let stops = [
+        (Stop::Words, "svsm_run: words\n"),
+        (Stop::Memory, "svsm_run: memory\n"),
+        (Stop::Read(1), "svsm_run: read 0x1\n"),
+        (Stop::Write, "svsm_run: write\n"),
+        (
+            Stop::Image {
+                line: 0,
+                kind: ImageKind::Unbuilt,
+            },
+            "svsm_run: image line 0x0 unbuilt\n",
+        ),
+    ];
+    for (stop, line) in stops {
+        let mut err = MemorySink::new(alloc, 4096, &[])?;
+        assert_eq!(rt; tell_stop(alloc, &mut err, stop), stop);
+        assert_eq!(rt; err.bytes(), line.as_bytes());
+    }
     Ok(())
 }
 

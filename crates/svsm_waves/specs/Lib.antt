@@ -1,0 +1,4 @@
+pub mod Trace
+pub mod Moved
+pub mod Wave
+pub mod Props

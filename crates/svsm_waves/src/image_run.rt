@@ -1,0 +1,52 @@
+//! The run of an image.
+ghost use Rattle.std.specs.Prelude.{◌≡◌, ◌≤◌, IfOk};
+ghost use Rattle.svsm_steps.specs.State.{rmp_rows};
+ghost use Rattle.svsm_steps.specs.Machine.{state_after};
+ghost use Rattle.svsm_steps.specs.Image.{constants_of, booted};
+ghost use Rattle.svsm_steps.specs.Safe.{AlwaysSafe};
+ghost use Rattle.svsm_steps.specs.Sound.{IsSound};
+ghost use Rattle.svsm_steps.specs.Requests.{AreScripts};
+ghost use Rattle.svsm_calls.specs.Run.{IsRun};
+
+use crate::waves::run_all;
+use crate::{Recorder, Turn};
+use std::alloc::Global;
+use std::sync::Wait;
+use svsm_steps::{CoreRun, Entry, Gate};
+use svsm_types::{Image, NoMemory, Request, RmpRow, Sequence};
+
+/// A run: its history, what each core gave, and all that stands of each page at its end.
+#[derive(Debug, Drop)]
+pub struct ImageRun {
+    pub trace: Sequence<Entry>,
+    pub cores: Sequence<CoreRun>,
+    pub rows: Sequence<RmpRow>,
+}
+
+/// Boots the machine of an image, and runs the scripts on its cores: the i-th script is that of core i, and a core without one
+/// has no requests. Each step passes the gate first.
+pub fn run_image<R: Wait, G: Gate>(
+    rt: &R,
+    alloc: Global,
+    image: &Image,
+    scripts: &[Sequence<Request>],
+    gate: &G,
+) -> Result<ImageRun, NoMemory>
+    requires sound { IsSound image.now }
+    requires scripts { AreScripts scripts.now }
+    ensures run { IfOk result (λ run. IsRun image.now scripts.now run.trace run.cores) }
+    ensures safe { IfOk result (λ run. AlwaysSafe (constants_of image.now) (booted image.now) run.trace) }
+    ensures rows { IfOk result (λ run. run.rows
+        ≡ rmp_rows image.now.regions (state_after (constants_of image.now) (booted image.now) run.trace)) }
+{
+    let history = Recorder::of_image(alloc, image)?;
+    let mut turn = Turn::new(gate, history);
+    let cores = run_all(rt, alloc, &mut turn, image, scripts)?;
+    let history = turn.into_history();
+    let rows = history.page_rows(alloc)?;
+    Ok(ImageRun {
+        trace: history.into_trace(),
+        cores: Sequence::from_vec(cores),
+        rows: Sequence::from_vec(rows),
+    })
+}
