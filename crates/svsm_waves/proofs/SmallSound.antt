@@ -1,15 +1,14 @@
 -- The image of the tests is sound.
-use Rattle.std.proofs.Common.{◌≡◌, ◌<◌, ◌≤◌, ◌+◌, ℕ, Bool, true, false, List, [], ◌∷◌, length, refl, sym, subst, arith, ◌⊎◌, inl, inr}
+use Rattle.std.proofs.Common.{◌≡◌, ◌<◌, ◌≤◌, ◌+◌, ℕ, Bool, true, false, List, [], ◌∷◌, length, refl, subst, arith, ◌⊎◌, inl, inr}
 use Rattle.std.proofs.lemmas.Bool.{and_parts, ltb-true}
 use Rattle.std.proofs.lemmas.Bool.Decides.{nat_tests}
 use Rattle.std.proofs.lemmas.List.Sums.{length-filter}
-use Rattle.std.specs.Prelude.{IsTrue, filter, find, count_by, nat_le, nat_lt, ◌==◌, ◌&&◌, ◌||◌, Option, Some, None, ⊤, if◌then◌else◌}
+use Rattle.std.specs.Prelude.{filter, find, count_by, nat_le, nat_lt, ◌==◌, ⊤}
 use Rattle.std.specs.List.{list_any}
-use Rattle.svsm_types.specs.declared.address.Page.{Page}
 use Rattle.svsm_types.specs.declared.image.Range.{Range}
 use Rattle.svsm_types.specs.declared.image.CoreLine.{CoreLine}
-use Rattle.svsm_types.specs.declared.owner.Owner.TheVariants.{Guest, Module, Vmsa}
-use Rattle.svsm_types.specs.declared.platform.HwState.TheVariants.{Assigned, Valid}
+use Rattle.svsm_types.specs.declared.owner.Owner.TheVariants.{Vmsa}
+use Rattle.svsm_types.specs.declared.platform.HwState.TheVariants.{Valid}
 use Rattle.svsm_steps.specs.Checks.{same_owner}
 use Rattle.svsm_steps.specs.Image.{is_in_range, range_of, owner_in}
 use Rattle.svsm_steps.specs.Sound.{IsSound, has_vmsa}

@@ -1,5 +1,5 @@
 -- An image of the tests: two regions, a vCPU of core 0, and a parked core 1.
-use Rattle.std.specs.Prelude.{◌≡◌, ℕ, false, Some, None, List, [], ◌∷◌}
+use Rattle.std.specs.Prelude.{ℕ, Some, None, [], ◌∷◌}
 use Rattle.svsm_types.specs.declared.image.Image.{Image}
 use Rattle.svsm_types.specs.declared.image.Range.{Range}
 use Rattle.svsm_types.specs.declared.owner.Owner.{Owner}
