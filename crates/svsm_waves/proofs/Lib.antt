@@ -6,3 +6,4 @@ pub mod KeepLemmas
 pub mod RunLemmas
 pub mod WaveLemmas
 pub mod ImageLemmas
+pub mod SmallSound

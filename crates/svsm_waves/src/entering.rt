@@ -26,7 +26,8 @@ fn enter<H: History, G: Gate>(
 ) -> Result<Caller, NoMemory>
     requires image { H.image turn.old.history ≡ image.now }
     requires waits { Waits image.now (H.trace turn.old.history) core }
-    ensures entered { IfOk result (λ caller. EnteredBy image.now core caller (H.trace turn.old.history) (H.trace turn.new.history)) }
+    ensures entered { IfOk result (λ caller.
+        EnteredBy image.now core caller (H.trace turn.old.history) (H.trace turn.new.history)) }
     ensures image { H.image turn.new.history ≡ image.now }
 {
     let apic = apic_of(image, core);
@@ -56,7 +57,8 @@ pub fn enter_all<H: History, G: Gate>(
     requires sound { IsSound image.now }
     requires wait { Each (Waits image.now (H.trace turn.old.history)) cores.now }
     requires rise { Rises cores.now }
-    ensures entered { IfOk result (λ callers. AreEntered image.now cores.now (H.trace turn.old.history) (H.trace turn.new.history) callers.items) }
+    ensures entered { IfOk result (λ callers.
+        AreEntered image.now cores.now (H.trace turn.old.history) (H.trace turn.new.history) callers.items) }
     ensures image { H.image turn.new.history ≡ image.now }
 {
     let mut callers = Vec::new(alloc);

@@ -15,3 +15,6 @@ pub use image_run::{ImageRun, run_image};
 pub use recorder::Recorder;
 pub use turn::Turn;
 pub use waves::run_all;
+
+#[cfg(test)]
+mod tests;

@@ -26,8 +26,10 @@ pub struct Recorder<'a> {
     trace: Vec<Entry>,
     ghost few: { image.now.regions ≤ 64 },
     ghost same: { constants_of machine ≡ constants_in image.now },
-    ghost state: { state_of machine ≡ state_after (constants_in image.now) (booted image.now) trace.items },
-    ghost numbers: { numbers_of machine ≡ numbers_after_all (constants_in image.now) (booted_numbers image.now) (booted image.now) trace.items },
+    ghost state: { state_of machine
+        ≡ state_after (constants_in image.now) (booted image.now) trace.items },
+    ghost numbers: { numbers_of machine
+        ≡ numbers_after_all (constants_in image.now) (booted_numbers image.now) (booted image.now) trace.items },
     ghost legal: { IsRunFrom (constants_in image.now) 0 (booted image.now) trace.items } by { run_prop (constants_in image.now) 0 (booted image.now) trace.items },
     ghost faults: { FollowsPlatform (constants_in image.now) (booted_numbers image.now) (booted image.now) trace.items } by { follows_prop (constants_in image.now) (booted_numbers image.now) (booted image.now) trace.items },
     ghost formed: { AreWellFormed image.now.regions trace.items } by { formed_prop image.now.regions trace.items },
@@ -53,7 +55,8 @@ impl<'a> Recorder<'a> {
 impl Recorder<'_> {
     /// All that stands of each page, in the order of the pages.
     pub fn page_rows(&self, alloc: Global) -> Result<Vec<RmpRow>, NoMemory>
-        ensures { IfOk result (λ rows. rows.items ≡ rmp_rows self.now.image.now.regions (state_of self.now.machine)) }
+        ensures { IfOk result (λ rows. rows.items
+            ≡ rmp_rows self.now.image.now.regions (state_of self.now.machine)) }
     {
         let mut rows = Vec::new(alloc);
         'pages: for page in 0..512 * self.image.regions {

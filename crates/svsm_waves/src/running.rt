@@ -35,7 +35,8 @@ fn run_one<R: Wait, H: History, G: Gate>(
     requires sound { IsSound image.now }
     requires script { IsScript script.now }
     requires entered { HasEntered image.now (H.trace turn.old.history) caller }
-    ensures ran { IfOk result (λ run. HasRun image.now script.now caller.core (H.trace turn.old.history) (H.trace turn.new.history) run) }
+    ensures ran { IfOk result (λ run.
+        HasRun image.now script.now caller.core (H.trace turn.old.history) (H.trace turn.new.history) run) }
     ensures image { H.image turn.new.history ≡ image.now }
 {
     let mut world = ScriptWorld::new(alloc, image, caller.core)?;
@@ -59,8 +60,10 @@ pub fn run_entered<R: Wait, H: History, G: Gate>(
     requires entered { Each (HasEntered image.now (H.trace turn.old.history)) callers.now }
     requires rise { Rises (cores_of callers.now) }
     requires count { length runs.old.items ≡ length image.now.cores }
-    ensures added { OnOk result (AddedBy (cores_of callers.now) (H.trace turn.old.history) (H.trace turn.new.history)) }
-    ensures gave { OnOk result ((ran : List ℕ) → Gave image.now scripts.now (H.trace turn.old.history) ran runs.old.items
+    ensures added { OnOk result
+        (AddedBy (cores_of callers.now) (H.trace turn.old.history) (H.trace turn.new.history)) }
+    ensures gave { OnOk result ((ran : List ℕ)
+        → Gave image.now scripts.now (H.trace turn.old.history) ran runs.old.items
         → Gave image.now scripts.now (H.trace turn.new.history) (ran ++ cores_of callers.now) runs.new.items) }
     ensures image { H.image turn.new.history ≡ image.now }
 {

@@ -86,7 +86,8 @@ impl<H: History, G: Gate> Stepper for Turn<'_, H, G> {
 
     ghost made = { λ turn. made_by turn.core (H.trace turn.history) };
 
-    ghost goes = { λ x y. Moved x.core y.core (H.image x.history) (H.image y.history) (H.trace x.history) (H.trace y.history) };
+    ghost goes = { λ x y.
+        Moved x.core y.core (H.image x.history) (H.image y.history) (H.trace x.history) (H.trace y.history) };
 
     fn step<R: Wait>(
         &mut self,
@@ -99,5 +100,7 @@ impl<H: History, G: Gate> Stepper for Turn<'_, H, G> {
 
     ghost stays = { λ x. moved_none x.core (H.image x.history) (H.trace x.history) };
 
-    ghost joins = { λ x y z h k. moved_both x.core y.core z.core (H.image x.history) (H.image y.history) (H.image z.history) (H.trace x.history) (H.trace y.history) (H.trace z.history) h k };
+    ghost joins = { λ x y z h k.
+        moved_both x.core y.core z.core (H.image x.history) (H.image y.history) (H.image z.history)
+        (H.trace x.history) (H.trace y.history) (H.trace z.history) h k };
 }
