@@ -1,0 +1,3 @@
+pub mod FrontLemmas
+pub mod PageLemmas
+pub mod RunLemmas

@@ -1,0 +1,5 @@
+pub mod Text
+pub mod History
+pub mod Pages
+pub mod Runs
+pub mod Report
