@@ -12,6 +12,7 @@ pub use cores::put_report;
 pub use history::put_history;
 pub use law::runs_tell_pages;
 pub use pages::put_rmp;
+pub use text::{put_newline, put_number, put_text, put_word};
 pub use whole::report_of;
 
 #[cfg(test)]

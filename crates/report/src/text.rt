@@ -6,6 +6,7 @@ ghost use Rattle.report.specs.Text.{spaced, IsBegun};
 use svsm_text::put_hex;
 use svsm_types::NoMemory;
 
+/// Appends the text.
 pub fn put_text(out: &mut Vec<u8>, text: &str) -> Result<(), NoMemory>
     ensures ok { OnOk result (out.new.items ≡ out.old.items ++ text.now) }
     ensures err { OnErr result (IsBegun out.old.items out.new.items) }
@@ -55,6 +56,7 @@ pub fn put_fields(out: &mut Vec<u8>, word: &str, numbers: &[u64]) -> Result<(), 
     put_numbers(out, numbers)
 }
 
+/// Ends the line.
 pub fn put_newline(out: &mut Vec<u8>) -> Result<(), NoMemory>
     ensures ok { OnOk result (out.new.items ≡ out.old.items ++ 10 ∷ []) }
     ensures err { OnErr result (IsBegun out.old.items out.new.items) }
