@@ -1,0 +1,4 @@
+pub mod Text
+pub mod History
+pub mod Pages
+pub mod Report

@@ -1,0 +1,96 @@
+-- The value of hex digits.
+use Rattle.std.proofs.Common.{◌≡◌, ℕ, zero, suc, ◌+◌, ◌*◌, ◌^◌, ◌<◌, ◌≤◌, Bool, true, nat_eq, subst, ◌/◌, ◌%◌, nat_lt, List, [], ◌∷◌, ◌++◌, length, take, get_or, refl, sym, ◌∙◌, ap, arith}
+use Rattle.std.specs.Prelude.{Some, codes, nat_le, ◌&&◌, false, if◌then◌else◌}
+use Rattle.std.specs.Fmt.{digits, digits_onto, digit_glyph}
+use Rattle.std.proofs.lemmas.Fmt.{digits_is_IsNumeral}
+use Rattle.svsm_text.specs.Numbers.{are_digits, number_in, number}
+use Rattle.std.proofs.Math.Nat.{pow-le-pow_right, pow-le-pow_left, pow-suc}
+use Rattle.std.specs.Str.Parse.{AllDigits, digits_value}
+use Rattle.std.specs.Char.{digit_value, is_digit}
+use Rattle.std.specs.List.{list_all}
+use Rattle.std.proofs.lemmas.Bool.Decides.{nat_tests}
+use Rattle.std.proofs.lemmas.List.Folds.{list_all_more}
+use Rattle.std.proofs.lemmas.Int.Digits.{digits_value-lt, digits_value_more}
+
+-- there is room for one more digit
+pub room : (ds : List ℕ) → AllDigits 16 ds → length ds < 16 → digits_value 16 ds * 16 + 15 < 2 ^ 64
+room ds all short =
+    let small : digits_value 16 ds < 16 ^ length ds = digits_value-lt 16 ds all in
+    let below : length ds ≤ 15 = omega arith in
+    let most : 16 ^ length ds ≤ 16 ^ 15 = pow-le-pow_right (omega arith) below in
+    omega (arith, small, most)
+
+below_passes : (m n : ℕ) → m < n → nat_lt m n ≡ true
+below_passes m n below = grind (arith, nat_tests)
+
+digit_passes : (c : ℕ) → digit_value c < 16 → is_digit c 16 ≡ true
+digit_passes c below = below_passes (digit_value c) 16 below
+
+pub more_pass : (ds : List ℕ) (at : ℕ) → at < length ds → list_all (λ c. is_digit c 16) (take at ds) ≡ true → digit_value (get_or ds at 0) < 16
+    → list_all (λ c. is_digit c 16) (take (at + 1) ds) ≡ true
+more_pass ds at within pass digit =
+    list_all_more (λ c. is_digit c 16) ds at 0 within ∙ rw pass (digit_passes (get_or ds at 0) digit)
+
+pub more_value : (ds : List ℕ) (at value digit : ℕ) → at < length ds → value ≡ digits_value 16 (take at ds) → digit ≡ digit_value (get_or ds at 0)
+    → value * 16 + digit ≡ digits_value 16 (take (at + 1) ds)
+more_value ds at value digit within is next = rw (is, next) (sym (digits_value_more 16 ds at within))
+
+all_digits : (ds : List ℕ) → AllDigits 16 ds → list_all (λ c. is_digit c 16) ds ≡ true
+all_digits [] all = refl
+all_digits (d ∷ ds) all = rw (digit_passes d all.0) (all_digits ds all.1)
+
+power : (j : ℕ) → 16 ^ suc j ≡ 16 ^ j * 16
+power j = pow-suc 16 j
+
+onto_step : (k n : ℕ) (acc : List ℕ) (t : Bool) → nat_eq (n / 16) 0 ≡ t
+    → digits_onto (suc k) 16 false n acc ≡ (if t then digit_glyph false (n % 16) ∷ acc else digits_onto k 16 false (n / 16) (digit_glyph false (n % 16) ∷ acc))
+onto_step k n acc t is = ap (λ (b : Bool). if b then digit_glyph false (n % 16) ∷ acc else digits_onto k 16 false (n / 16) (digit_glyph false (n % 16) ∷ acc)) is
+
+equal : (m n : ℕ) → nat_eq m n ≡ true → m ≡ n
+equal m n is = grind (arith, nat_tests)
+
+differ : (m n : ℕ) → nat_eq m n ≡ false → m ≡ n → ⊥
+differ m n is same = grind (arith, nat_tests)
+
+lower : (n p : ℕ) → n < p * 16 → n / 16 < p
+lower n p small = omega arith
+
+none_over : (n : ℕ) → n < 16 ^ 1 → n / 16 ≡ 0
+none_over n small = omega arith
+
+onto_by : (k j n : ℕ) (acc : List ℕ) (t : Bool) → nat_eq (n / 16) 0 ≡ t → n < 16 ^ suc j
+    → ((i : ℕ) → n / 16 < 16 ^ suc i → length (digits_onto k 16 false (n / 16) (digit_glyph false (n % 16) ∷ acc)) ≤ suc i + suc (length acc))
+    → length (digits_onto (suc k) 16 false n acc) ≤ suc j + length acc
+onto_by k j n acc true is small later = omega (arith, ap length (onto_step k n acc true is))
+onto_by k zero n acc false is small later = absurd (differ (n / 16) 0 is (none_over n small))
+onto_by k (suc i) n acc false is small later =
+    let below : n / 16 < 16 ^ suc i = lower n (16 ^ suc i) (subst (λ (p : ℕ). n < p) (power (suc i)) small) in
+    omega (arith, ap length (onto_step k n acc false is), later i below)
+
+onto_length : (k j n : ℕ) (acc : List ℕ) → n < 16 ^ suc j → length (digits_onto k 16 false n acc) ≤ suc j + length acc
+onto_length zero j n acc small = omega arith
+onto_length (suc k) j n acc small =
+    onto_by k j n acc (nat_eq (n / 16) 0) refl small (λ i below. onto_length k i (n / 16) (digit_glyph false (n % 16) ∷ acc) below)
+
+both_hold : {a b : Bool} → a ≡ true → b ≡ true → (a && b) ≡ true
+both_hold {a} {b} p q = rw p q
+
+up_to : (m n : ℕ) → m ≤ n → nat_le m n ≡ true
+up_to m n le = grind (arith, nat_tests)
+
+number_of : (ds : List ℕ) (n : ℕ) → are_digits ds ≡ true → digits_value 16 ds ≡ n → number_in (codes "0x" ++ ds) ≡ Some n
+number_of ds n whole value = simp (whole, value)
+
+pub digits_short : (n : ℕ) → n < 2 ^ 64 → length (digits 16 false n) ≤ 16
+unfolding digits
+digits_short n small = onto_length 64 15 n [] small
+
+far : (n a b : ℕ) → n < a → a ≤ b → n < b
+far n a b low high = omega arith
+
+-- what `put_hex` writes is read again
+pub read_again : (n : ℕ) → n < 2 ^ 64 → number_in (number n) ≡ Some n
+read_again n small =
+    let numeral = digits_is_IsNumeral 16 false (omega arith) (omega arith) n (far n (2 ^ 64) (16 ^ 64) small (pow-le-pow_left {n = 2} {m = 16} (omega arith) 64)) in
+    let whole : are_digits (digits 16 false n) ≡ true = both_hold (below_passes 0 (length (digits 16 false n)) numeral.0.0) (both_hold (up_to _ 16 (digits_short n small)) (all_digits (digits 16 false n) numeral.0.1)) in
+    number_of (digits 16 false n) n whole numeral.1
