@@ -237,6 +237,7 @@ fn a_brief_report_has_no_history(rt: HostRuntime) -> Result<(), Fail> {
 }
 
 // A gate that keeps what it is given: core, place and number of each step in one byte, the last lowest.
+#[derive(Drop)]
 struct Recording {
     given: AtomicU64,
 }
