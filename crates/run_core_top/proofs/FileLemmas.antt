@@ -1,6 +1,6 @@
 -- What stands in a file that was loaded.
-use Rattle.std.proofs.Common.{◌≡◌, ℕ, suc, ◌+◌, ◌<◌, ◌≤◌, Bool, true, false, List, [], ◌∷◌, length, refl, ap, sym, ◌∙◌, subst, arith, append_assoc, ⊎_elim, inl, inr}
-use Rattle.std.specs.Prelude.{◌⊎◌, ◌++◌, nat_lt, if◌then◌else◌, Option, Some, None, IfSome, Result, Ok, Err}
+use Rattle.std.proofs.Common.{◌≡◌, ℕ, suc, ◌+◌, ◌<◌, ◌≤◌, true, false, List, [], ◌∷◌, length, refl, ap, sym, ◌∙◌, subst, arith, ⊎_elim, inl, inr}
+use Rattle.std.specs.Prelude.{nat_lt, Option, Some, None, IfSome, Ok, Err}
 use Rattle.std.proofs.lemmas.Bool.Decides.{nat_tests}
 use Rattle.svsm_types.specs.declared.image.Image.{Image}
 use Rattle.svsm_types.specs.declared.request.Request.{Request}

@@ -1,4 +1,3 @@
-pub mod PageLemmas
 pub mod BaseImage
 pub mod FileLemmas
 pub mod TopLemmas

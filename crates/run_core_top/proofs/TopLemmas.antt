@@ -1,6 +1,6 @@
 -- What was carried out, and why it was not.
-use Rattle.std.proofs.Common.{◌≡◌, ◌≢◌, ◌↔◌, ℕ, zero, suc, ◌+◌, ◌<◌, ◌≤◌, List, [], ◌∷◌, length, sym, ◌∙◌, ap, subst, inl, inr, ⊎_elim, arith}
-use Rattle.std.specs.Prelude.{◌⊎◌, Option, Some, None, Result, Ok, Err, slice_index_or, Contains}
+use Rattle.std.proofs.Common.{◌≡◌, ◌≢◌, ℕ, zero, suc, ◌+◌, ◌<◌, ◌≤◌, List, [], ◌∷◌, length, sym, ◌∙◌, ap, subst, inl, ⊎_elim, arith}
+use Rattle.std.specs.Prelude.{◌⊎◌, Option, Some, Ok, slice_index_or}
 use Rattle.svsm_types.specs.declared.image.Image.{Image}
 use Rattle.svsm_types.specs.declared.request.Request.{Request}
 use Rattle.svsm_types.specs.declared.owner.RmpRow.{RmpRow}
@@ -21,7 +21,7 @@ use Rattle.run_core_top.specs.Files.{image_in, script_in, Agrees, IsImageFile, I
 use Rattle.run_core_top.specs.Causes.{IsBadImage, IsBadScript, ImageCause, ScriptCause, ScriptsCause, IsTooMany, FilesCause, IsRefused, IsGoodScript, AreGood}
 use Rattle.run_core_top.specs.Stops.{status_of, stop_line}
 use Rattle.run_core_top.specs.Headline.{status_by, IsCarriedOut, StopsFor, StopsWith}
-use Rattle.run_core_top.specs.Report.{report_text}
+use Rattle.report.specs.Report.{report_text}
 
 -- WHAT FILES NEVER GIVE
 

@@ -20,7 +20,7 @@ use Rattle.run_core_top.specs.declared.stop.Stop.TheVariants as stops
 use Rattle.run_core_top.specs.Files.{AreFiles}
 use Rattle.run_core_top.specs.Causes.{FilesCause}
 use Rattle.run_core_top.specs.Stops.{status_of, stop_line}
-use Rattle.run_core_top.specs.Report.{report_text}
+use Rattle.report.specs.Report.{report_text}
 
 -- whether a core made all its requests, or has none to make
 abbrev pub ends_well : CoreEnd → Bool

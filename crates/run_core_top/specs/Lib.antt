@@ -1,7 +1,3 @@
-pub mod Text
-pub mod History
-pub mod Pages
-pub mod Report
 pub mod Image
 pub mod Files
 pub mod Stops

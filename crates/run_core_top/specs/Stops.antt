@@ -6,7 +6,8 @@ use Rattle.run_core_top.specs.declared.image.ImageKind.{ImageKind}
 use Rattle.run_core_top.specs.declared.image.ImageKind.TheVariants as images
 use Rattle.run_core_top.specs.declared.stop.Stop.{Stop}
 use Rattle.run_core_top.specs.declared.stop.Stop.TheVariants as stops
-use Rattle.run_core_top.specs.Text.{number, line}
+use Rattle.svsm_text.specs.Numbers.{number}
+use Rattle.report.specs.Text.{line}
 
 abbrev pub status_of : Stop → ℕ
 status_of stops.Words = 2

@@ -3,12 +3,12 @@ ghost use Rattle.std.specs.Prelude.{◌≡◌, ◌≤◌, IfOk, IfErr, OnOk};
 ghost use Rattle.command_words.specs.Seen.{run_seen};
 ghost use Rattle.run_core_top.specs.Causes.{FilesCause};
 ghost use Rattle.run_core_top.specs.Headline.{ends_well, all_end_well, status_by, IsCarriedOut};
-ghost use Rattle.run_core_top.specs.Report.{report_text};
+ghost use Rattle.report.specs.Report.{report_text};
 
 use crate::load::load_files;
-use crate::report::report_of;
 use crate::stop::Stop;
 use command_words::RunWords;
+use report::report_of;
 use std::alloc::Global;
 use std::sync::Wait;
 use svsm_outside::Shelf;

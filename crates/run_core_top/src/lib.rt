@@ -2,13 +2,10 @@
 #![tactic(auto)]
 
 mod carried;
-mod history;
 mod image;
 mod load;
 mod open_gate;
-mod pages;
 mod program;
-mod report;
 mod stop;
 mod text;
 mod top;

@@ -1,6 +1,6 @@
 //! Why a run was refused.
 ghost use Rattle.std.specs.Prelude.{◌≡◌, ◌⊎◌, ◌++◌, IfOk, OnOk, flat_map};
-ghost use Rattle.run_core_top.specs.Text.{spaced};
+ghost use Rattle.report.specs.Text.{spaced};
 ghost use Rattle.run_core_top.specs.declared.stop.Stop.TheVariants.{Memory};
 ghost use Rattle.svsm_outside.specs.Outside.{Tells};
 ghost use Rattle.run_core_top.specs.Stops.{status_of, image_word, script_word, stop_fields, stop_line};

@@ -3,14 +3,12 @@ mod rows;
 
 use super::*;
 use crate::image::ImageKind;
-use crate::report::report_of;
 use crate::stop::{Stop, tell_stop};
 use script_reader::ScriptKind;
 use std::alloc::Global;
 use std::io;
 use std::test::Fail;
-use svsm_steps::{Answer, CoreEnd, CoreRun, Entry, Outcome, Step};
-use svsm_types::{Faulted, Gpa, Owner, Page, PageState, Perms, Regs, RmpRow, Sequence, Size, Vmpl};
+use svsm_types::Faulted;
 
 const IMAGE: &[u8] =
     b"svsm-image 1\nregions 0x2\nvmpl 0x2\nfeatures 0x1\nghcb 0x5\nrange 0x0 0x5 module valid 0x0\nrange 0x5 0x1 module assigned 0x0\nrange 0x6 0xa module valid 0x0\nrange 0x10 0x1 vmsa valid 0x0\nrange 0x11 0x1ef guest valid 0xf0\nrange 0x200 0x200 guest assigned 0x0\ncore 0x0 vmsa 0x10000 caa 0x20000\ncore 0x1 parked\n";
@@ -22,88 +20,6 @@ fn words_of(alloc: Global, line: &str) -> Result<Vec<String>, Fail> {
         all.push(String::from_str(alloc, word)?)?;
     }
     Ok(all)
-}
-
-// A page of the guest, as a report has it.
-fn guest_page(rights: u8) -> RmpRow {
-    let state = PageState {
-        assigned: true,
-        validated: true,
-        rights: [Perms(0), Perms(rights), Perms(0)],
-        vmsa: false,
-    };
-    RmpRow {
-        owner: Owner::Guest,
-        recorded: true,
-        state,
-        large: false,
-    }
-}
-
-#[test]
-fn a_report_has_cores_history_and_page_runs(rt: HostRuntime) -> Result<(), Fail> {
-    let alloc = rt.alloc();
-    let mut outcomes = Sequence::new(alloc);
-    outcomes.push(Outcome::Word(0x1234))?;
-    outcomes.push(Outcome::Reply(Regs {
-        rax: 0x8000_0007,
-        rcx: 1,
-        rdx: 2,
-        r8: 3,
-        r9: 4,
-    }))?;
-    let faulted = CoreRun {
-        core: 0,
-        outcomes,
-        end: CoreEnd::Faulted { ticket: 0x14 },
-    };
-    let end = CoreEnd::Host {
-        sent: 0x2_0000_0016,
-        got: 0x1_0000_0017,
-    };
-    let host = CoreRun {
-        core: 1,
-        outcomes: Sequence::new(alloc),
-        end,
-    };
-    let step = Step::Validate {
-        vmpl: Vmpl(2),
-        page: Page(0x200),
-        size: Size::Large,
-        on: false,
-    };
-    let first = Entry {
-        ticket: 0,
-        core: 0,
-        place: 1,
-        step,
-        answer: Answer::Hw(6),
-    };
-    let step = Step::Reserve {
-        apic: 1,
-        page: Page(0x30),
-        caa: Gpa(0x3_1000),
-    };
-    let next = Entry {
-        ticket: 1,
-        core: 0xf,
-        place: 3,
-        step,
-        answer: Answer::Strange(Owner::Vmsa),
-    };
-    let rows = [
-        guest_page(15),
-        guest_page(15),
-        guest_page(3),
-        guest_page(15),
-    ];
-    let text = report_of(alloc, false, &[faulted, host], &[first, next], &rows)?;
-    let expected =
-        "svsm-run 1\ncore 0x0 request 0x0 word 0x1234\ncore 0x0 request 0x1 reply 0x80000007 0x1 0x2 0x3 0x4\ncore 0x0 faulted 0x14\ncore 0x1 host 0x200000016 0x100000017\nhistory 0x2\nstep 0x0 0x0 0x1 invalidate 0x2 0x200 0x1 -> hw 0x6\nstep 0x1 0xf 0x3 reserve 0x1 0x30 0x31000 -> strange vmsa\nrmp 0x0 0x2 guest recorded valid 0xf0 plain small\nrmp 0x2 0x1 guest recorded valid 0x30 plain small\nrmp 0x3 0x1 guest recorded valid 0xf0 plain small\nend\n";
-    assert_eq!(rt; text.as_slice(), expected.as_bytes());
-    let brief = report_of(alloc, true, &[], &[first, next], &[])?;
-    assert_eq!(rt; brief.as_slice(), b"svsm-run 1\nend\n".as_slice());
-    Ok(())
 }
 
 #[test]

@@ -1,7 +1,9 @@
 //! Numbers and words of a text.
 ghost use Rattle.std.specs.Prelude.{◌≡◌, ◌∷◌, [], ◌++◌, OnOk};
-ghost use Rattle.run_core_top.specs.Text.{number, spaced};
+ghost use Rattle.svsm_text.specs.Numbers.{number};
+ghost use Rattle.report.specs.Text.{spaced};
 
+use svsm_text::put_hex;
 use svsm_types::NoMemory;
 
 pub fn put_text(out: &mut Vec<u8>, text: &str) -> Result<(), NoMemory>
@@ -9,14 +11,6 @@ pub fn put_text(out: &mut Vec<u8>, text: &str) -> Result<(), NoMemory>
 {
     out.extend_from_slice(text.as_bytes())?;
     Ok(())
-}
-
-/// Appends the number as `0x` and its digits.
-pub fn put_hex(out: &mut Vec<u8>, value: u64) -> Result<(), NoMemory>
-    ensures { OnOk result (out.new.items ≡ out.old.items ++ number value) }
-{
-    let text = format!(in *out.allocator(); "0x{value:x}")?;
-    put_text(out, text.as_str())
 }
 
 /// Appends a space and the number.

@@ -3,7 +3,10 @@ ghost use Rattle.std.specs.Prelude.{Some};
 
 use super::*;
 use std::alloc::Global;
+use std::process::Abort;
+use std::sync::Wait;
 use std::sync::atomic::{AtomicU64, Ordering};
+use std::thread::Threads;
 use svsm_steps::Gate;
 
 const REPORT: &[u8] =
@@ -153,8 +156,12 @@ fn a_sink_for_refusals_that_fails_changes_no_status(rt: HostRuntime) -> Result<(
 }
 
 // What a run on these files gave: its status, and what it wrote to `err`. Nothing was written to `out`.
-fn refusal(rt: &HostRuntime, shelf: &mut MemoryShelf, line: &str) -> Result<(u8, MemorySink), Fail> {
-    let alloc = rt.alloc();
+fn refusal<R: Threads + Wait + Sync + Abort>(
+    rt: &R,
+    alloc: Global,
+    shelf: &mut MemoryShelf,
+    line: &str,
+) -> Result<(u8, MemorySink), Fail> {
     let mut out = MemorySink::new(alloc, 4096, &[])?;
     let mut err = MemorySink::new(alloc, 4096, &[])?;
     let words = words_of(alloc, line)?;
@@ -182,7 +189,7 @@ fn files_are_refused_in_their_order(rt: HostRuntime) -> Result<(), Fail> {
         ("run image kind gone", "script 0x0 at 0x0 kind"),
     ];
     for (line, refused) in lines {
-        let (status, err) = refusal(&rt, &mut shelf, line)?;
+        let (status, err) = refusal(&rt, alloc, &mut shelf, line)?;
         assert_eq!(rt; status, 4);
         let expected = format!(in alloc; "svsm_run: {refused}\n")?;
         assert_eq!(rt; err.bytes(), expected.as_bytes());
@@ -203,7 +210,7 @@ fn a_file_may_have_16_777_216_bytes(rt: HostRuntime) -> Result<(), Fail> {
         ("run image most", "script 0x0 at 0x55555 length"),
     ];
     for (line, refused) in lines {
-        let (status, err) = refusal(&rt, &mut shelf, line)?;
+        let (status, err) = refusal(&rt, alloc, &mut shelf, line)?;
         assert_eq!(rt; status, 4);
         let expected = format!(in alloc; "svsm_run: {refused}\n")?;
         assert_eq!(rt; err.bytes(), expected.as_bytes());
@@ -230,6 +237,7 @@ fn a_brief_report_has_no_history(rt: HostRuntime) -> Result<(), Fail> {
 }
 
 // A gate that keeps what it is given: core, place and number of each step in one byte, the last lowest.
+#[derive(Drop)]
 struct Recording {
     given: AtomicU64,
 }

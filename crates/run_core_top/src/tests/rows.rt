@@ -1,7 +1,10 @@
 //! What scripts do on the base image.
 use super::*;
 use std::alloc::Global;
+use std::process::Abort;
 use std::str;
+use std::sync::Wait;
+use std::thread::Threads;
 
 // The six words of a request.
 type Record = [u64; 6];
@@ -53,25 +56,24 @@ fn sink(alloc: Global) -> Result<MemorySink, Fail> {
 }
 
 // The pieces stand in the text, in this order.
-fn stand_in(rt: &HostRuntime, text: &[u8], pieces: &[&str]) -> Result<(), Fail> {
+fn stand_in(text: &[u8], pieces: &[&str]) -> Result<(), Fail> {
     let mut rest = str::from_utf8(text)?;
     for piece in pieces {
         let (_, after) = rest.split_once(*piece).ok_or("a piece is not there")?;
         rest = after;
     }
-    let _ = rt;
     Ok(())
 }
 
 // The scripts of core 0 and of core 1, in their waves, have this status and these pieces in their report.
-fn expect(
-    rt: &HostRuntime,
+fn expect<R: Threads + Wait + Sync + Abort>(
+    rt: &R,
+    alloc: Global,
     first: &[Record],
     second: &[Record],
     status: u8,
     pieces: &[&str],
 ) -> Result<(), Fail> {
-    let alloc = rt.alloc();
     let mut shelf = MemoryShelf::new(alloc, &[])?;
     shelf.put_file("image", IMAGE)?;
     shelf.put_file("first", &script_of(alloc, first)?)?;
@@ -82,7 +84,7 @@ fn expect(
     let ran = svsm_top(rt, alloc, &words, &mut shelf, &mut out, &mut err, &OpenGate);
     assert_eq!(rt; ran.status, status);
     assert!(rt; err.bytes().is_empty());
-    stand_in(rt, out.bytes(), pieces)
+    stand_in(out.bytes(), pieces)
 }
 
 #[test]
@@ -103,7 +105,7 @@ fn a_query_knows_one_version_and_unknown_calls_have_codes(rt: HostRuntime) -> Re
         "core 0x0 request 0x4 reply 0x80000002 0x0 0x0 0x0 0x0\n",
         "core 0x0 request 0x5 reply 0x80000001 0x0 0x0 0x0 0x0\n",
     ];
-    expect(&rt, &first, &[], 0, &pieces)
+    expect(&rt, rt.alloc(), &first, &[], 0, &pieces)
 }
 
 #[test]
@@ -133,7 +135,7 @@ fn a_page_is_validated_once(rt: HostRuntime) -> Result<(), Fail> {
         "rmp 0x11 0x1f0 guest recorded valid 0xf0 plain small\n",
         "rmp 0x201 0x1ff guest unrecorded assigned 0x0 plain small\n",
     ];
-    expect(&rt, &first, &[], 0, &pieces)
+    expect(&rt, rt.alloc(), &first, &[], 0, &pieces)
 }
 
 #[test]
@@ -148,7 +150,7 @@ fn a_2m_entry_needs_a_2m_page(rt: HostRuntime) -> Result<(), Fail> {
         "core 0x0 request 0x2 reply 0x80001006 0x21000 0x0 0x0 0x0\n",
         "core 0x0 request 0x3 word 0x1\n",
     ];
-    expect(&rt, &first, &[], 0, &pieces)
+    expect(&rt, rt.alloc(), &first, &[], 0, &pieces)
 }
 
 #[test]
@@ -171,7 +173,7 @@ fn a_header_has_1_to_511_entries(rt: HostRuntime) -> Result<(), Fail> {
         "core 0x0 request 0x7 reply 0x80000003 0x21000 0x0 0x0 0x0\n",
         "core 0x0 request 0x8 word 0x1ff\n",
     ];
-    expect(&rt, &first, &[], 0, &pieces)
+    expect(&rt, rt.alloc(), &first, &[], 0, &pieces)
 }
 
 #[test]
@@ -182,7 +184,7 @@ fn a_list_stands_at_a_multiple_of_8_in_pages_of_the_guest(rt: HostRuntime) -> Re
         "core 0x0 request 0x1 reply 0x80000003 0x1000 0x0 0x0 0x0\n",
         "core 0x0 request 0x2 reply 0x80000003 0x400000 0x0 0x0 0x0\n",
     ];
-    expect(&rt, &first, &[], 0, &pieces)
+    expect(&rt, rt.alloc(), &first, &[], 0, &pieces)
 }
 
 #[test]
@@ -201,7 +203,7 @@ fn a_list_stops_at_the_first_entry_that_is_refused(rt: HostRuntime) -> Result<()
         "rmp 0x11 0x1f0 guest recorded valid 0xf0 plain small\n",
         "rmp 0x201 0x1ff guest unrecorded assigned 0x0 plain small\n",
     ];
-    expect(&rt, &first, &[], 0, &pieces)
+    expect(&rt, rt.alloc(), &first, &[], 0, &pieces)
 }
 
 #[test]
@@ -231,7 +233,7 @@ fn a_list_that_was_stopped_goes_on(rt: HostRuntime) -> Result<(), Fail> {
         " validate 0x2 0x204 0x0 -> done\n",
         "rmp 0x11 0x1f4 guest recorded valid 0xf0 plain small\n",
     ];
-    expect(&rt, &first, &[], 0, &pieces)
+    expect(&rt, rt.alloc(), &first, &[], 0, &pieces)
 }
 
 #[test]
@@ -260,7 +262,7 @@ fn a_list_that_was_stopped_goes_on_as_the_guest_has_changed_it(
         "rmp 0x210 0x1 guest recorded valid 0xf0 plain small\n",
         "rmp 0x211 0x1ef guest unrecorded assigned 0x0 plain small\n",
     ];
-    expect(&rt, &first, &[], 0, &pieces)
+    expect(&rt, rt.alloc(), &first, &[], 0, &pieces)
 }
 
 #[test]
@@ -271,7 +273,7 @@ fn a_list_that_takes_its_own_page_is_not_stored_to(rt: HostRuntime) -> Result<()
         "rmp 0x11 0x10 guest recorded valid 0xf0 plain small\n",
         "rmp 0x21 0x1 guest unrecorded assigned 0x0 plain small\n",
     ];
-    expect(&rt, &first, &[], 0, &pieces)
+    expect(&rt, rt.alloc(), &first, &[], 0, &pieces)
 }
 
 #[test]
@@ -304,7 +306,7 @@ fn a_page_is_deposited_and_withdrawn(rt: HostRuntime) -> Result<(), Fail> {
         "core 0x0 request 0xd word 0x0\n",
         "rmp 0x11 0x1ef guest recorded valid 0xf0 plain small\n",
     ];
-    expect(&rt, &first, &[], 0, &pieces)
+    expect(&rt, rt.alloc(), &first, &[], 0, &pieces)
 }
 
 #[test]
@@ -321,7 +323,7 @@ fn an_empty_pool_gives_no_page(rt: HostRuntime) -> Result<(), Fail> {
         "core 0x0 request 0x3 word 0x1\n",
         "core 0x0 request 0x4 word 0x0\n",
     ];
-    expect(&rt, &first, &[], 0, &pieces)
+    expect(&rt, rt.alloc(), &first, &[], 0, &pieces)
 }
 
 #[test]
@@ -352,7 +354,7 @@ fn a_processor_is_made_and_runs_in_the_second_wave(rt: HostRuntime) -> Result<()
         "rmp 0x10 0x20 guest recorded valid 0xf0 plain small\n",
         "rmp 0x30 0x1 vmsa recorded valid 0x0 vmsa small\n",
     ];
-    expect(&rt, &first, &second, 0, &pieces)
+    expect(&rt, rt.alloc(), &first, &second, 0, &pieces)
 }
 
 #[test]
@@ -371,7 +373,7 @@ fn a_call_that_is_not_pending_is_spurious(rt: HostRuntime) -> Result<(), Fail> {
         " pend 0x2 0x20000 -> denied\n",
         " take 0x2 0x20000 -> refused\n",
     ];
-    expect(&rt, &first, &[], 0, &pieces)
+    expect(&rt, rt.alloc(), &first, &[], 0, &pieces)
 }
 
 #[test]
@@ -390,7 +392,7 @@ fn a_page_that_the_host_steals_faults(rt: HostRuntime) -> Result<(), Fail> {
         " -> fault 0x0\nrmp ",
         "rmp 0x30 0x1 pool recorded shared 0x0 plain small\n",
     ];
-    expect(&rt, &first, &[], 1, &pieces)
+    expect(&rt, rt.alloc(), &first, &[], 1, &pieces)
 }
 
 #[test]
@@ -398,7 +400,7 @@ fn a_script_without_requests_enters_and_leaves(rt: HostRuntime) -> Result<(), Fa
     let pieces = [
         "core 0x0 done\ncore 0x1 unstarted\nhistory 0x2\nstep 0x0 0x0 0x3 enter 0x0 -> seen 0x10 0x20000\nstep 0x1 0x0 0x3 leave 0x0 -> done\nrmp ",
     ];
-    expect(&rt, &[], &[], 0, &pieces)
+    expect(&rt, rt.alloc(), &[], &[], 0, &pieces)
 }
 
 #[test]
@@ -414,7 +416,7 @@ fn a_deposit_needs_the_size_and_the_state_of_its_page(rt: HostRuntime) -> Result
         "core 0x0 request 0x2 reply 0x80001006 0x21000 0x0 0x0 0x0\n",
         "core 0x0 request 0x4 reply 0x80000003 0x21000 0x0 0x0 0x0\n",
     ];
-    expect(&rt, &first, &[], 0, &pieces)
+    expect(&rt, rt.alloc(), &first, &[], 0, &pieces)
 }
 
 #[test]
@@ -433,7 +435,7 @@ fn a_calling_area_is_moved(rt: HostRuntime) -> Result<(), Fail> {
         " pend 0x2 0x20000 -> done\n",
         " pend 0x2 0x22000 -> done\n",
     ];
-    expect(&rt, &first, &[], 0, &pieces)
+    expect(&rt, rt.alloc(), &first, &[], 0, &pieces)
 }
 
 #[test]
@@ -450,7 +452,7 @@ fn a_page_that_the_host_took_and_gave_back_faults(rt: HostRuntime) -> Result<(),
         "core 0x0 request 0x3 done\ncore 0x0 faulted 0x9\n",
         " -> fault 0x0\nrmp ",
     ];
-    expect(&rt, &first, &[], 1, &pieces)
+    expect(&rt, rt.alloc(), &first, &[], 1, &pieces)
 }
 
 #[test]
@@ -467,7 +469,7 @@ fn a_core_of_the_second_wave_faults(rt: HostRuntime) -> Result<(), Fail> {
         "core 0x1 request 0x0 done\ncore 0x1 faulted 0x10\n",
         "rmp 0x10 0x1 vmsa recorded shared 0x0 plain small\n",
     ];
-    expect(&rt, &first, &second, 1, &pieces)
+    expect(&rt, rt.alloc(), &first, &second, 1, &pieces)
 }
 
 #[test]
@@ -476,5 +478,5 @@ fn a_script_has_up_to_128_requests(rt: HostRuntime) -> Result<(), Fail> {
     let pieces = [
         "core 0x0 request 0x7f reply 0x0 0x100000001 0x0 0x0 0x0\ncore 0x0 done\ncore 0x1 unstarted\nhistory 0x102\n",
     ];
-    expect(&rt, &first, &[], 0, &pieces)
+    expect(&rt, rt.alloc(), &first, &[], 0, &pieces)
 }

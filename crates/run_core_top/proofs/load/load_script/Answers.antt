@@ -1,5 +1,4 @@
-use Rattle.std.proofs.Common.{refl, ap, sym, ◌∙◌, List}
-use Rattle.std.specs.Prelude.{Result, Ok}
+use Rattle.std.proofs.Common.{refl}
 use Rattle.run_core_top.proofs.FileLemmas.{too_long_script, read_script, bad_script}
 use Rattle.run_core_top.proofs.load.load_script.Goals as goal
 

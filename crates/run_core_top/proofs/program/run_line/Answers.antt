@@ -1,4 +1,4 @@
-use Rattle.std.proofs.Common.{◌≡◌, ◌⊎◌, ◌≤◌, ℕ, List, map, string_bytes, subst}
+use Rattle.std.proofs.Common.{◌≡◌, ◌⊎◌, ◌≤◌, ℕ, List, subst}
 use Rattle.svsm_outside.specs.Outside.{Tells}
 use Rattle.run_core_top.specs.Headline.{Headline, IsCutOff, StopsWith}
 use Rattle.run_core_top.proofs.program.run_line.Goals as goal

@@ -1,4 +1,4 @@
-use Rattle.std.proofs.Common.{◌≡◌, ◌≤◌, ℕ, List, map, string_bytes, sym, inr, subst, arith}
+use Rattle.std.proofs.Common.{◌≤◌, ℕ, List, map, string_bytes, sym, inr, subst, arith}
 use Rattle.svsm_outside.specs.Outside.{IsWritten, Tells}
 use Rattle.command_words.specs.Seen.{run_seen}
 use Rattle.run_core_top.proofs.TopLemmas.{stops_with, met_status, good_status, not_refused}
