@@ -95,9 +95,6 @@ fn a_wrong_answer_to_a_run_request_ends_its_core(rt: HostRuntime) -> Result<(), 
     let alloc = rt.alloc();
     let image = base_with(alloc, b"host run 0x0 0x0 0x100000017\n")?;
     let script = [write(LIST, 1)];
-    let pieces = [
-        "core 0x0 host 0x200000016 0x100000017\n",
-        "history 0x1\n",
-    ];
+    let pieces = ["core 0x0 host 0x200000016 0x100000017\n", "history 0x1\n"];
     expect_on(&rt, alloc, &image, &script, &[], 1, &pieces)
 }
