@@ -17,7 +17,7 @@ pub fn write(address: u64, word: u64) -> Record {
     [1, address, word, 2, 0, 0]
 }
 
-fn read(address: u64) -> Record {
+pub fn read(address: u64) -> Record {
     [4, address, 0, 2, 0, 0]
 }
 
