@@ -13,7 +13,7 @@ use Rattle.svsm_run_laws.specs.Follows.{Follows}
 use Rattle.svsm_run_laws.specs.Kept.{EachRowBalances, EveryRunKeeps, RunsKeepPartition, NoAnswerIsOdd, RowsStayApart, IsPart, EveryPartKeeps, idle, begun}
 use Rattle.svsm_run_laws.proofs.Core.{started_follows}
 use Rattle.svsm_run_laws.proofs.Steps.{step_law}
-use Rattle.svsm_run_laws.proofs.Waves.{GoesWell, goes_well}
+use Rattle.svsm_run_laws.proofs.CoresFollow.{GoesWell, goes_well}
 use Rattle.svsm_run_laws.proofs.Along.{AllAlong, along}
 use Rattle.svsm_run_laws.proofs.Counted.{partition}
 use Rattle.svsm_run_laws.proofs.Fresh.{fresh, distinct}

@@ -1,8 +1,8 @@
 -- Each entry of a run has a well-formed step.
-use Rattle.std.proofs.Common.{◌≡◌, ◌≢◌, ℕ, zero, suc, ◌+◌, ◌*◌, ◌<◌, ◌≤◌, All, arith, Bool, true, false, List, [], ◌∷◌, ◌++◌, length, map, refl, sym, ap, ◌∙◌, subst, ⊎_elim}
+use Rattle.std.proofs.Common.{◌≡◌, ℕ, zero, suc, ◌+◌, ◌*◌, ◌≤◌, All, arith, Bool, true, false, List, [], ◌∷◌, ◌++◌, map, refl, sym, subst}
 use Rattle.std.proofs.lemmas.List.{map-append}
-use Rattle.std.proofs.lemmas.Bool.{cases_Bool, eq-eqb, eqb-true, ltb-true}
-use Rattle.std.specs.Prelude.{◌==◌, if◌then◌else◌, Contains, ⊤}
+use Rattle.std.proofs.lemmas.Bool.{eq-eqb, ltb-true}
+use Rattle.std.specs.Prelude.{◌==◌, if◌then◌else◌, ⊤}
 use Rattle.svsm_types.specs.Pages.{is_in_map}
 use Rattle.svsm_types.specs.declared.address.Gpa.{Gpa}
 use Rattle.svsm_types.specs.declared.image.Image.{Image}
@@ -32,8 +32,7 @@ use Rattle.svsm_calls.specs.Calls.{whole_call}
 use Rattle.svsm_steps.specs.Made.{Made, made_of, made_by}
 use Rattle.svsm_calls.specs.Events.{pairs_of, Event}
 use Rattle.svsm_calls.specs.CoreRun.{area_by, area_after, caller_after, IsCallPiece, IsStepPiece, outside, stepped, IsPiece, IsCallCut, IsCutOff, ArePieces, none, one_more, IsCoreRun, done, faulted, host}
-use Rattle.svsm_calls.specs.Waves.{is_among}
-use Rattle.svsm_calls.specs.Run.{caller_of, IsStarted, IsCore, script_of}
+use Rattle.svsm_calls.specs.Run.{caller_of, IsStarted, script_of}
 use Rattle.svsm_calls.specs.Formed.{IsCaller, AsksFormed}
 use Rattle.svsm_calls.proofs.FormedLemmas.{call_formed}
 use Rattle.svsm_calls.proofs.Whole.{call_complete}
@@ -43,8 +42,7 @@ use Rattle.svsm_run_laws.specs.Formed.{RunsAreFormed, RunsAreSafe, RunsEndConsis
 use Rattle.svsm_laws.proofs.SoundImage.{sound_seats, sound_ranges, sound_accepts}
 use Rattle.svsm_laws.proofs.BootedSafe.{booted_is_always_safe}
 use Rattle.svsm_laws.proofs.Consistent.{booted_is_consistent, stays_consistent}
-use Rattle.svsm_run_laws.proofs.Filtered.{First, filter_first}
-use Rattle.svsm_run_laws.proofs.OwnWaves.{of_waves, of_lines, Line, line_of}
+use Rattle.svsm_run_laws.proofs.Waves.{each_core}
 
 -- each step is well formed, as long as each answer before it was
 abbrev pub GoesOn : ℕ → List Asked → Type 0
@@ -289,14 +287,6 @@ all_formed constants n state (entry ∷ entries) run mapped h =
           (λ core. goes_by constants.regions core entry entries (entry.core == core) refl may (h core)),
     )
 
--- a core without entries
-none_by : (core : ℕ) (entries log : List Entry) → of_core core entries ≡ log → ((entry : Entry) → Contains entries entry → entry.core ≢ core)
-    → of_core core entries ≡ []
-none_by core entries [] e h = e
-none_by core entries (entry ∷ log) e h =
-    let f : First (λ (x : Entry). x.core == core) entries entry = filter_first (λ (x : Entry). x.core == core) entries entry log e in
-    absurd (h entry f.of_it (eqb-true entry.core core f.passes))
-
 script_formed : (scripts : List (List Request)) (core : ℕ) → AreScripts scripts → AreRequests (script_of scripts core)
 script_formed [] core h = tt
 script_formed (script ∷ scripts) zero h = requests_of script (h zero [] (omega arith)).requests
@@ -305,21 +295,9 @@ script_formed (script ∷ scripts) (suc core) h = script_formed scripts core (λ
 pub runs_are_formed : RunsAreFormed
 runs_are_formed image scripts entries cores is f run =
     all_formed (constants_of image) 0 (booted image) entries run.legal (booted_is_mapped image (sound_seats image is))
-    (λ core. ⊎_elim
-    (λ (among : is_among core run.ran ≡ true).
-    let low : core < length image.cores = of_lines image entries run.ran run.waves core among in
-    let line : Line image scripts entries run.ran cores core = line_of image scripts entries run.ran cores core run.each low in
-    let its : IsCore true image core (script_of scripts core) (made_by core entries) line.run =
-    subst (λ (b : Bool). IsCore b image core (script_of scripts core) (made_by core entries) line.run) among line.gave in
-    started_goes image core (script_of scripts core) (made_by core entries) line.run.outcomes line.run.end is (script_formed scripts core f) its.1)
-    (λ (out : is_among core run.ran ≡ false).
-    subst (λ l. GoesOn image.regions (pairs_of (map made_of l)))
-    (sym (none_by core entries (of_core core entries) refl
-    (λ entry has same.
-    let among : is_among entry.core run.ran ≡ true = of_waves image entries run.ran run.waves entry has in
-    let wrong : true ≡ false = sym among ∙ ap (λ (c : ℕ). is_among c run.ran) same ∙ out in
-    cc))) tt)
-    (cases_Bool (is_among core run.ran)))
+    (λ core. each_core image scripts entries cores run (λ made. GoesOn image.regions (pairs_of made)) core tt
+    (λ outcomes end started.
+    started_goes image core (script_of scripts core) (made_by core entries) outcomes end is (script_formed scripts core f) started))
 
 pub runs_are_safe : RunsAreSafe
 runs_are_safe image scripts entries cores sound f run =
