@@ -37,3 +37,5 @@ pub mod TwoCores
 pub mod TwoCalls
 pub mod OneWay
 pub mod Only
+pub mod WorkedCalls
+pub mod TwoWaves

@@ -6,3 +6,5 @@ pub mod Formed
 pub mod Entering
 pub mod TwoCores
 pub mod TwoCalls
+pub mod WorkedCalls
+pub mod TwoWaves

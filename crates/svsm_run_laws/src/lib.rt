@@ -13,6 +13,8 @@ ghost use Rattle.svsm_run_laws.specs.Formed.{RunsAreFormed, RunsAreSafe, RunsEnd
 ghost use Rattle.svsm_run_laws.specs.Kept.{BootedIsAccounted, CallsKeepHands, EachRowBalances, EveryPartKeeps, EveryRunKeeps, NoAnswerIsOdd, RowsStayApart, RunsKeepPartition};
 ghost use Rattle.svsm_run_laws.specs.TwoCalls.{GoesOn};
 ghost use Rattle.svsm_run_laws.specs.TwoCores.{two_cores, two_entries, two_image, two_scripts};
+ghost use Rattle.svsm_run_laws.specs.TwoWaves.{waves_cores, waves_entries, waves_image, waves_scripts};
+ghost use Rattle.svsm_run_laws.specs.WorkedCalls.{WorkedCalls, WorkedPolls};
 
 /// Each entry of a run has a well-formed step.
 pub fn runs_are_formed()
@@ -109,4 +111,15 @@ pub fn has_a_run_apart()
 /// There are calls that go on from one another, of two cores.
 pub fn has_calls_that_go_on()
     ensures { GoesOn }
+{}
+
+/// There is a run of two cores in two waves.
+pub fn has_a_run_of_two_waves()
+    ensures { IsRun waves_image waves_scripts waves_entries waves_cores }
+{}
+
+/// Worked calls as whole sequences, and worked polls of the world, by computation.
+pub fn worked_calls()
+    ensures calls { WorkedCalls }
+    ensures polls { WorkedPolls }
 {}
