@@ -8,3 +8,4 @@ pub mod TwoCores
 pub mod TwoCalls
 pub mod WorkedCalls
 pub mod TwoWaves
+pub mod StepFacts

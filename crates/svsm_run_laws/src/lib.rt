@@ -4,6 +4,8 @@
 //! Each law is the contract of a function with an empty body; its statement stands in `specs/` here or in `svsm_calls`.
 #![tactic(auto)]
 
+ghost use Rattle.svsm_steps.specs.Requests.{AreScripts};
+ghost use Rattle.svsm_steps.specs.Sound.{IsSound};
 ghost use Rattle.svsm_calls.specs.Alone.{CoresApartAnswerAlone};
 ghost use Rattle.svsm_calls.specs.Apart.{IsApart};
 ghost use Rattle.svsm_calls.specs.Resumed.{CallsAreInOrder, ListCallsAreMade, LoadsGoOn, OnceInRuns};
@@ -11,6 +13,7 @@ ghost use Rattle.svsm_calls.specs.Run.{IsRun};
 ghost use Rattle.svsm_run_laws.specs.Entering.{EntersApart, ReadyIsSeen};
 ghost use Rattle.svsm_run_laws.specs.Formed.{RunsAreFormed, RunsAreSafe, RunsEndConsistent};
 ghost use Rattle.svsm_run_laws.specs.Kept.{BootedIsAccounted, CallsKeepHands, EachRowBalances, EveryPartKeeps, EveryRunKeeps, NoAnswerIsOdd, RowsStayApart, RunsKeepPartition};
+ghost use Rattle.svsm_run_laws.specs.StepFacts.{BlockFacts, BootFacts, RegionFacts, RegistryFacts, WordFacts};
 ghost use Rattle.svsm_run_laws.specs.TwoCalls.{GoesOn};
 ghost use Rattle.svsm_run_laws.specs.TwoCores.{two_cores, two_entries, two_image, two_scripts};
 ghost use Rattle.svsm_run_laws.specs.TwoWaves.{waves_cores, waves_entries, waves_image, waves_scripts};
@@ -102,8 +105,10 @@ pub fn cores_apart_answer_alone()
     ensures { CoresApartAnswerAlone }
 {}
 
-/// There is a run of two cores that is apart, with a fault of one of them.
+/// There is a run of two cores that is apart, with a fault of one of them, of a sound image with scripts.
 pub fn has_a_run_apart()
+    ensures sound { IsSound two_image }
+    ensures scripted { AreScripts two_scripts }
     ensures run { IsRun two_image two_scripts two_entries two_cores }
     ensures apart { IsApart 2 two_entries }
 {}
@@ -122,4 +127,13 @@ pub fn has_a_run_of_two_waves()
 pub fn worked_calls()
     ensures calls { WorkedCalls }
     ensures polls { WorkedPolls }
+{}
+
+/// Worked facts of the registry, of words, of the steps of regions, of blocks and of the boot, by computation.
+pub fn worked_steps()
+    ensures registry { RegistryFacts }
+    ensures words { WordFacts }
+    ensures regions { RegionFacts }
+    ensures blocks { BlockFacts }
+    ensures boot { BootFacts }
 {}
