@@ -14,7 +14,7 @@ use Rattle.svsm_steps.specs.Made.{made_of, made_by}
 use Rattle.svsm_run_laws.specs.Holding.{Hold, Position, hold_of, position_by, MayMove}
 use Rattle.svsm_steps.specs.Odd.{is_odd, NoneOdd}
 use Rattle.svsm_run_laws.specs.Follows.{Follows}
-use Rattle.svsm_run_laws.specs.Accounts.{apic_at, Accounts, moved, held_after, has_block, has_vmsa}
+use Rattle.svsm_run_laws.specs.Accounts.{apic_at, Accounts, moved, held_after, hand_has_block, hand_has_vmsa}
 use Rattle.svsm_run_laws.proofs.Steps.{AreDistinct, accounts_step}
 use Rattle.svsm_run_laws.proofs.Ties.{move_block, move_vmsa}
 
@@ -22,11 +22,11 @@ pub record AllAlong (constants : Constants) (state : State) (held : ℕ → Posi
   pub accounts : Accounts constants (state_after constants state front) (held_after held front)
   pub none_odd : NoneOdd front
   pub blocks : (core : ℕ) (b : PoolBlock)
-      → is_held (begins_block b) (ends_block b) (has_block b (hold_of (held core))) (of_core core front)
-      ≡ has_block b (hold_of (held_after held front core))
+      → is_held (begins_block b) (ends_block b) (hand_has_block b (hold_of (held core))) (of_core core front)
+      ≡ hand_has_block b (hold_of (held_after held front core))
   pub vmsas : (core q : ℕ)
-      → is_held (begins_vmsa q) (ends_vmsa q) (has_vmsa q (hold_of (held core))) (of_core core front)
-      ≡ has_vmsa q (hold_of (held_after held front core))
+      → is_held (begins_vmsa q) (ends_vmsa q) (hand_has_vmsa q (hold_of (held core))) (of_core core front)
+      ≡ hand_has_vmsa q (hold_of (held_after held front core))
 
 lt-from : (a b : ℕ) → nat_lt a b ≡ true → a < b
 lt-from a b h = grind (arith, nat_tests)
@@ -74,12 +74,12 @@ along constants (entry ∷ front) back n state held distinct acc run below follo
     record {
       accounts = rest.accounts;
       none_odd = (step.1, rest.none_odd);
-      blocks = λ core b. held_on (entry.core == core) (begins_block b) (ends_block b) (has_block b) (held core) entry (of_core core front)
+      blocks = λ core b. held_on (entry.core == core) (begins_block b) (ends_block b) (hand_has_block b) (held core) entry (of_core core front)
           (λ e. let at : entry.core ≡ core = eqb-true entry.core core e in
           move_block (apic_at constants entry.core) b (held core) entry.step entry.answer
           (subst (λ (k : ℕ). MayMove (apic_at constants entry.core) (held k) entry.step) at may))
           ∙ rest.blocks core b;
-      vmsas = λ core q. held_on (entry.core == core) (begins_vmsa q) (ends_vmsa q) (has_vmsa q) (held core) entry (of_core core front)
+      vmsas = λ core q. held_on (entry.core == core) (begins_vmsa q) (ends_vmsa q) (hand_has_vmsa q) (held core) entry (of_core core front)
           (λ e. let at : entry.core ≡ core = eqb-true entry.core core e in
           move_vmsa (apic_at constants entry.core) q (held core) entry.step entry.answer
           (subst (λ (k : ℕ). MayMove (apic_at constants entry.core) (held k) entry.step) at may))

@@ -11,7 +11,7 @@ use Rattle.svsm_steps.specs.Machine.{state_after}
 use Rattle.svsm_steps.specs.Partition.{Partition, has_page, small_block, large_block, holds_block, holds_vmsa, cores_that}
 use Rattle.svsm_steps.specs.Words.{as_bit}
 use Rattle.svsm_run_laws.specs.Holding.{Hold, nothing, block, reserved, taken, retired, Position, before, hold_of}
-use Rattle.svsm_run_laws.specs.Accounts.{tally, over, pool_part, vmsa_part, IsHoldAligned, is_live, held_after, has_block, has_vmsa}
+use Rattle.svsm_run_laws.specs.Accounts.{tally, over, pool_part, vmsa_part, IsHoldAligned, is_live, held_after, hand_has_block, hand_has_vmsa}
 use Rattle.svsm_run_laws.proofs.Counts.{tally_is}
 use Rattle.svsm_run_laws.proofs.Hands.{over_same}
 use Rattle.svsm_run_laws.proofs.Along.{AllAlong}
@@ -51,7 +51,7 @@ sum_right a true false e f = cc
 sum_right a false true e f = cc
 
 block_parts : (page : ℕ) (hold : Hold) → IsHoldAligned hold
-    → as_bit (has_block (small_block page) hold) + as_bit (has_block (large_block page) hold) ≡ pool_part page hold
+    → as_bit (hand_has_block (small_block page) hold) + as_bit (hand_has_block (large_block page) hold) ≡ pool_part page hold
 block_parts page (block p Small) even =
     sum_left _ _ _ (and_right (p.0 == 512 * (page / 512)) false refl) (and_yes (p.0 == page) ∙ small_same p.0 page)
 block_parts page (block p Large) even =
@@ -61,7 +61,7 @@ block_parts page (reserved p) even = refl
 block_parts page (taken p) even = refl
 block_parts page (retired p) even = refl
 
-vmsa_parts : (page : ℕ) (hold : Hold) → as_bit (has_vmsa page hold) ≡ vmsa_part page hold
+vmsa_parts : (page : ℕ) (hold : Hold) → as_bit (hand_has_vmsa page hold) ≡ vmsa_part page hold
 vmsa_parts page nothing = refl
 vmsa_parts page (block p size) = refl
 vmsa_parts page (reserved p) = refl
@@ -79,8 +79,8 @@ partition constants state front all =
           let both = over_sum (λ k. as_bit (holds_block (small_block page) k front)) (λ k. as_bit (holds_block (large_block page) k front)) 0 (length constants.apics) in
           let hands = over_same (λ k. as_bit (holds_block (small_block page) k front) + as_bit (holds_block (large_block page) k front))
           (λ k. pool_part page (hold_of (held k))) 0 (length constants.apics)
-          (λ k low high. let a : holds_block (small_block page) k front ≡ has_block (small_block page) (hold_of (held k)) = all.blocks k (small_block page) in
-          let b : holds_block (large_block page) k front ≡ has_block (large_block page) (hold_of (held k)) = all.blocks k (large_block page) in
+          (λ k low high. let a : holds_block (small_block page) k front ≡ hand_has_block (small_block page) (hold_of (held k)) = all.blocks k (small_block page) in
+          let b : holds_block (large_block page) k front ≡ hand_has_block (large_block page) (hold_of (held k)) = all.blocks k (large_block page) in
           rw (a, b) (block_parts page (hold_of (held k)) (all.accounts.held_aligned k))) in
           let pool = tally_is (has_page page) (state_after constants state front).pool in
           let books = all.accounts.blocks page in
@@ -88,7 +88,7 @@ partition constants state front all =
       of_vmsa = λ page.
           let cores = cores_over constants (λ core. holds_vmsa page core front) in
           let hands = over_same (λ k. as_bit (holds_vmsa page k front)) (λ k. vmsa_part page (hold_of (held k))) 0 (length constants.apics)
-          (λ k low high. let a : holds_vmsa page k front ≡ has_vmsa page (hold_of (held k)) = all.vmsas k page in
+          (λ k low high. let a : holds_vmsa page k front ≡ hand_has_vmsa page (hold_of (held k)) = all.vmsas k page in
           rw a (vmsa_parts page (hold_of (held k)))) in
           let rows = tally_is (is_live page) (state_after constants state front).rows in
           let books = all.accounts.vmsas page in

@@ -1,12 +1,16 @@
 -- Every run keeps the accounts.
 use Rattle.svsm_run_laws.specs.Holding.{Position, before, position_by}
 use Rattle.svsm_types.specs.declared.image.Image.{Image}
-use Rattle.std.proofs.Common.{◌≡◌, ◌++◌, ℕ, List, [], ◌∷◌, subst, append-nil, sym}
+use Rattle.std.proofs.Common.{◌≡◌, ◌≤◌, ◌++◌, ℕ, List, [], ◌∷◌, subst, append-nil, sym}
 use Rattle.std.specs.Prelude.{IsTrue, nat_lt, length}
 use Rattle.std.specs.List.{list_all}
 use Rattle.svsm_steps.specs.declared.entry.Entry.{Entry}
-use Rattle.svsm_steps.specs.Machine.{IsRunFrom}
+use Rattle.svsm_steps.specs.Machine.{IsRunFrom, state_after}
 use Rattle.svsm_steps.specs.Image.{constants_of, booted}
+use Rattle.svsm_steps.specs.Registry.{of_page}
+use Rattle.svsm_types.specs.declared.vcpu.Row.{Row}
+use Rattle.svsm_laws.specs.Consistent.{of_apic}
+use Rattle.svsm_run_laws.proofs.Counts.{tally_is}
 use Rattle.svsm_steps.specs.Made.{made_by, Made}
 use Rattle.svsm_calls.specs.Waves.{apic_of}
 use Rattle.svsm_run_laws.specs.Follows.{Follows}
@@ -43,7 +47,12 @@ none_odd image scripts entries cores sound is =
 
 pub rows_apart : RowsStayApart
 rows_apart image scripts entries cores front back sound is split =
-    (every_run image scripts entries cores front back sound is split).apart
+    let apart = (every_run image scripts entries cores front back sound is split).apart in
+    let rows : List Row = (state_after (constants_of image) (booted image) front).rows in
+    record {
+      pages = λ page. subst (λ (n : ℕ). n ≤ 1) (tally_is (of_page page) rows) (apart.pages page);
+      apics = λ apic. subst (λ (n : ℕ). n ≤ 1) (tally_is (of_apic apic) rows) (apart.apics apic);
+    }
 
 pub each_row : EachRowBalances
 each_row constants state apic was entry known may gives =

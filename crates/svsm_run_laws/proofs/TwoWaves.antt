@@ -1,5 +1,5 @@
 -- The run in two waves, by computation.
-use Rattle.std.proofs.Common.{◌≡◌, true, List, [], ◌∷◌, refl}
+use Rattle.std.proofs.Common.{◌≡◌, true, List, [], ◌∷◌, ◌++◌, refl}
 use Rattle.svsm_types.specs.Hardware.{word_faults, rmpadjust_faults, adjusted_pages}
 use Rattle.svsm_types.specs.declared.request.Request.TheVariants.{Call}
 use Rattle.svsm_steps.specs.declared.step.Step.TheVariants.{GuestPend, TakePending, Reserve, ClearCaa, VmsaTake, Commit, Enter, Leave}
@@ -150,14 +150,7 @@ first_start = record {
   ticket = 0;
   page = page 0x10;
   caa = at 0x20000;
-  rest =
-      record { ticket = 1; step = GuestPend vmpl (at 0x20000); answer = Done }
-      ∷ (record { ticket = 2; step = TakePending vmpl (at 0x20000); answer = Word 1 }
-      ∷ (record { ticket = 3; step = Reserve 1 (page 0x30) (at 0x31000); answer = Done }
-      ∷ (record { ticket = 4; step = ClearCaa vmpl (at 0x31000); answer = Done }
-      ∷ (record { ticket = 5; step = VmsaTake vmpl (page 0x30) 1; answer = Done }
-      ∷ (record { ticket = 6; step = Commit (page 0x30); answer = Done }
-      ∷ (record { ticket = 7; step = Leave 0; answer = Done } ∷ []))))));
+  rest = called ++ record { ticket = 7; step = Leave 0; answer = Done } ∷ [];
   events = sent (run_value core_0) 0x17 ∷ (started 0 ∷ []);
   begins = refl;
   run =

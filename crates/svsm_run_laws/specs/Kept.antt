@@ -1,6 +1,9 @@
 -- What holds of every run, before and after each entry.
-use Rattle.std.specs.Prelude.{◌≡◌, ℕ, List, [], ◌++◌, Bool, false, IsTrue, nat_lt, length}
+use Rattle.std.specs.Prelude.{◌≡◌, ℕ, List, [], ◌++◌, ◌≤◌, count_by, Bool, false, IsTrue, nat_lt, length}
 use Rattle.svsm_types.specs.declared.image.Image.{Image}
+use Rattle.svsm_types.specs.declared.vcpu.Row.{Row}
+use Rattle.svsm_steps.specs.Registry.{of_page}
+use Rattle.svsm_laws.specs.Consistent.{of_apic}
 use Rattle.svsm_types.specs.declared.request.Request.{Request}
 use Rattle.svsm_steps.specs.declared.entry.Entry.{Entry}
 use Rattle.svsm_steps.specs.declared.outcome.CoreRun.{CoreRun}
@@ -49,12 +52,17 @@ NoAnswerIsOdd =
     (image : Image) (scripts : List (List Request)) (entries : List Entry) (cores : List CoreRun)
     → IsSound image → IsRun image scripts entries cores → NoneOdd entries
 
--- No two rows have one APIC id or one page, before and after each entry of a run.
+-- no two rows have one APIC id or one page
+pub record RowsApart (rows : List Row) : Type 0 where
+  pub pages : (page : ℕ) → count_by (of_page page) rows ≤ 1
+  pub apics : (apic : ℕ) → count_by (of_apic apic) rows ≤ 1
+
+-- So it is before and after each entry of a run.
 abbrev pub RowsStayApart : Type 0
 RowsStayApart =
     (image : Image) (scripts : List (List Request)) (entries : List Entry) (cores : List CoreRun) (front back : List Entry)
     → IsSound image → IsRun image scripts entries cores → entries ≡ front ++ back
-    → AreApart (state_after (constants_of image) (booted image) front).rows
+    → RowsApart (state_after (constants_of image) (booted image) front).rows
 
 -- The rows of the step table, each over a state and the acting core: whatever a core may do next, with what it holds being its own,
 -- leaves the books balanced, and its answer is not odd.

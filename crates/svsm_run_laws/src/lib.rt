@@ -11,7 +11,7 @@ ghost use Rattle.svsm_calls.specs.Apart.{IsApart};
 ghost use Rattle.svsm_calls.specs.Resumed.{CallsAreInOrder, ListCallsAreMade, LoadsGoOn, OnceInRuns};
 ghost use Rattle.svsm_calls.specs.Run.{IsRun};
 ghost use Rattle.svsm_run_laws.specs.Entering.{EntersApart, ReadyIsSeen};
-ghost use Rattle.svsm_run_laws.specs.Formed.{RunsAreFormed, RunsAreSafe, RunsEndConsistent};
+ghost use Rattle.svsm_run_laws.specs.Formed.{RunsAreFormed, RunsAreSafe, RunsStayConsistent};
 ghost use Rattle.svsm_run_laws.specs.Kept.{BootedIsAccounted, CallsKeepHands, EachRowBalances, EveryPartKeeps, EveryRunKeeps, NoAnswerIsOdd, RowsStayApart, RunsKeepPartition};
 ghost use Rattle.svsm_run_laws.specs.StepFacts.{BlockFacts, BootFacts, RegionFacts, RegistryFacts, WordFacts};
 ghost use Rattle.svsm_run_laws.specs.TwoCalls.{GoesOn};
@@ -29,9 +29,9 @@ pub fn runs_are_safe()
     ensures { RunsAreSafe }
 {}
 
-/// And every run ends in a consistent state.
-pub fn runs_end_consistent()
-    ensures { RunsEndConsistent }
+/// And the state of every run is consistent, before and after each entry.
+pub fn runs_stay_consistent()
+    ensures { RunsStayConsistent }
 {}
 
 /// Pages of the pool and VMSA pages are accounted for once, before and after each entry of a run.
