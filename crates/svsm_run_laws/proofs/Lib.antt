@@ -39,5 +39,5 @@ pub mod OneWay
 pub mod Only
 pub mod WorkedCalls
 pub mod TwoWaves
-pub mod TwoSound
+pub mod SoundExamples
 pub mod StepFacts

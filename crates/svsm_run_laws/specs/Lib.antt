@@ -2,6 +2,7 @@ pub mod Holding
 pub mod Follows
 pub mod Accounts
 pub mod Kept
+pub mod Balances
 pub mod Formed
 pub mod Entering
 pub mod TwoCores

@@ -12,7 +12,8 @@ ghost use Rattle.svsm_calls.specs.Resumed.{CallsAreInOrder, ListCallsAreMade, Lo
 ghost use Rattle.svsm_calls.specs.Run.{IsRun};
 ghost use Rattle.svsm_run_laws.specs.Entering.{EntersApart, ReadyIsSeen};
 ghost use Rattle.svsm_run_laws.specs.Formed.{RunsAreFormed, RunsAreSafe, RunsStayConsistent};
-ghost use Rattle.svsm_run_laws.specs.Kept.{BootedIsAccounted, CallsKeepHands, EachRowBalances, EveryPartKeeps, EveryRunKeeps, NoAnswerIsOdd, RowsStayApart, RunsKeepPartition};
+ghost use Rattle.svsm_run_laws.specs.Kept.{EveryPartKeeps, EveryRunKeeps, NoAnswerIsOdd, RowsStayApart, RunsKeepPartition};
+ghost use Rattle.svsm_run_laws.specs.Balances.{BootedIsAccounted, CallsKeepHands, EachRowBalances};
 ghost use Rattle.svsm_run_laws.specs.StepFacts.{BlockFacts, BootFacts, RegionFacts, RegistryFacts, WordFacts};
 ghost use Rattle.svsm_run_laws.specs.TwoCalls.{GoesOn};
 ghost use Rattle.svsm_run_laws.specs.TwoCores.{two_cores, two_entries, two_image, two_scripts};
@@ -118,9 +119,11 @@ pub fn has_calls_that_go_on()
     ensures { GoesOn }
 {}
 
-/// There is a run of two cores in two waves.
+/// There is a run of two cores in two waves, of a sound image with scripts.
 pub fn has_a_run_of_two_waves()
-    ensures { IsRun waves_image waves_scripts waves_entries waves_cores }
+    ensures sound { IsSound waves_image }
+    ensures scripted { AreScripts waves_scripts }
+    ensures run { IsRun waves_image waves_scripts waves_entries waves_cores }
 {}
 
 /// Worked calls as whole sequences, and worked polls of the world, by computation.
