@@ -133,5 +133,11 @@ pub scripts_stop : (before later now : ShelfView) (command : Run) (image : Image
     → IsImageFile (before.told command.image) image → length command.scripts ≤ length image.cores → names ≡ command.scripts
     → later.told ≡ before.told → later.faults ≡ before.faults → ScriptsCause 0 later now names stop → FilesCause before now command stop
 scripts_stop before later now command image names stop is_image few same told faults cause =
-    inr (image, is_image, inr (few,
-        subst (λ (names : List (List ℕ)). ScriptsCause 0 before now names stop) same (causes_along 0 before later now names stop told faults cause)))
+    inr (
+      image,
+      is_image,
+      inr (
+        few,
+        subst (λ (names : List (List ℕ)). ScriptsCause 0 before now names stop) same (causes_along 0 before later now names stop told faults cause),
+      ),
+    )

@@ -43,8 +43,8 @@ by_cause : (Out : Type 0) (before now : ShelfView) (command : Run) (stop : Stop)
 by_cause Out before now command stop cause image count scripts =
     ⊎_elim image
     (λ (read : (one : Image) × IsImageFile (before.told command.image) one
-        × (((now.faults ≡ before.faults) × IsTooMany (length command.scripts) (length one.cores) stop)
-            ⊎ ((length command.scripts ≤ length one.cores) × ScriptsCause 0 before now command.scripts stop))).
+    × (((now.faults ≡ before.faults) × IsTooMany (length command.scripts) (length one.cores) stop)
+    ⊎ ((length command.scripts ≤ length one.cores) × ScriptsCause 0 before now command.scripts stop))).
     ⊎_elim (λ (many : (now.faults ≡ before.faults) × IsTooMany (length command.scripts) (length read.0.cores) stop). count read.0 read.1 many.1)
     (λ (few : (length command.scripts ≤ length read.0.cores) × ScriptsCause 0 before now command.scripts stop). scripts few.1)
     read.2)
@@ -151,7 +151,7 @@ good_scripts : (before now : ShelfView) (core at : ℕ) (k : ScriptKind) (names 
 good_scripts before now core at k [] good number cause = cause
 good_scripts before now core at k (name ∷ names) good number cause =
     ⊎_elim (λ (here : ScriptCause number before now name (stops.Script core at k)).
-        good_script before now name number core at k (good 0 name (omega arith)) here)
+    good_script before now name number core at k (good 0 name (omega arith)) here)
     (λ (there : ((script : List Request) × IsScriptFile (before.told name) script) × ScriptsCause (number + 1) before now names (stops.Script core at k)).
     good_scripts before now core at k names (λ i d lt. good (suc i) d (omega arith)) (number + 1) there.1)
     cause
@@ -179,13 +179,13 @@ good_stop before now words command (stops.Image line k) is good cause =
     let same : cause.0 ≡ command = cc in
     let files = subst (λ (one : Run). FilesCause before now one (stops.Image line k)) same cause.2 in
     λ e. by_cause ⊥ before now command (stops.Image line k) files (good_image before now command line k good)
-        (λ image read many. cc many.1) (scripts_never before now (stops.Image line k) (λ number name e. e) 0 command.scripts)
+    (λ image read many. cc many.1) (scripts_never before now (stops.Image line k) (λ number name e. e) 0 command.scripts)
 good_stop before now words command (stops.Script core at k) is good cause =
     let same : cause.0 ≡ command = cc in
     let files = subst (λ (one : Run). FilesCause before now one (stops.Script core at k)) same cause.2 in
     λ e. by_cause ⊥ before now command (stops.Script core at k) files (λ e. e)
-        (λ image read many. good_count before.told command image (stops.Script core at k) good read many)
-        (good_scripts before now core at k command.scripts (λ i d lt. good.scripts i d lt) 0)
+    (λ image read many. good_count before.told command image (stops.Script core at k) good read many)
+    (good_scripts before now core at k command.scripts (λ i d lt. good.scripts i d lt) 0)
 good_stop before now words command (stops.Read file) is good cause = λ e. omega arith
 good_stop before now words command stops.Write is good cause = λ e. omega arith
 
@@ -212,8 +212,8 @@ pub carried : (told : List ℕ → Option (List ℕ)) (command : Run) (image : I
     → kept ≡ trace → text ≡ report_text command.brief cores trace rows → status ≡ status_by cores
     → (made : IsCarriedOut told command kept text) × (status ≡ status_by made.report.cores)
 carried told command image scripts items trace kept cores rows text status files same run safe is_rows is_trace is_text is_status =
-    subst (λ (t : List Entry). (made : IsCarriedOut told command t text) × (status ≡ status_by made.report.cores)) (sym is_trace)
-    (record {
+    subst (λ (t : List Entry). (made : IsCarriedOut told command t text) × (status ≡ status_by made.report.cores)) (sym is_trace) (
+      record {
         image = image;
         scripts = scripts;
         files = files;
@@ -223,4 +223,6 @@ carried told command image scripts items trace kept cores rows text status files
           safe = safe;
           prints = is_text ∙ ap (report_text command.brief cores trace) is_rows;
         };
-      }, is_status)
+      },
+      is_status,
+    )

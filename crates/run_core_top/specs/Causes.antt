@@ -48,21 +48,26 @@ ScriptsCause number before now (name ∷ names) stop =
     ScriptCause number before now name stop
     ⊎ (((script : List Request) × IsScriptFile (before.told name) script) × ScriptsCause (number + 1) before now names stop)
 
--- why the files of a run were not read, or no memory was left for it: the image comes first, then the number of the scripts, then they
+-- why the files of a run were not read, or no memory was left for it: the image comes first, then the number of the scripts, and
+-- then the scripts in their order
 abbrev pub FilesCause : ShelfView → ShelfView → Run → Stop → Type 0
 FilesCause before now run stop =
     ImageCause before now run.image stop
     ⊎ ((image : Image) × IsImageFile (before.told run.image) image
-        × (((now.faults ≡ before.faults) × IsTooMany (length run.scripts) (length image.cores) stop)
-            ⊎ ((length run.scripts ≤ length image.cores) × ScriptsCause 0 before now run.scripts stop)))
+    × (((now.faults ≡ before.faults) × IsTooMany (length run.scripts) (length image.cores) stop)
+    ⊎ ((length run.scripts ≤ length image.cores) × ScriptsCause 0 before now run.scripts stop)))
 
 -- FILES THAT ARE TOLD
 
 -- a file of the run is refused
 pub data IsRefused (told : List ℕ → Option (List ℕ)) (run : Run) : Type 0 where
   image : (bytes : List ℕ) (bad : ℕ × ImageKind) → told run.image ≡ Some bytes → image_in bytes ≡ Err bad → IsRefused told run
-  count : (bytes : List ℕ) (image : Image) → told run.image ≡ Some bytes → image_in bytes ≡ Ok image → length image.cores < length run.scripts → IsRefused told run
-  script : (name bytes : List ℕ) (bad : ℕ × ScriptKind) → Contains run.scripts name → told name ≡ Some bytes → script_in bytes ≡ Err bad → IsRefused told run
+  count :
+      (bytes : List ℕ) (image : Image) → told run.image ≡ Some bytes → image_in bytes ≡ Ok image
+      → length image.cores < length run.scripts → IsRefused told run
+  script :
+      (name bytes : List ℕ) (bad : ℕ × ScriptKind) → Contains run.scripts name → told name ≡ Some bytes
+      → script_in bytes ≡ Err bad → IsRefused told run
 
 -- a script is told, and is of the form
 pub record IsGoodScript (told : Option (List ℕ)) : Type 0 where

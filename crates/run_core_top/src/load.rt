@@ -123,11 +123,7 @@ fn count_scripts(image: &Image, scripts: usize) -> Result<(), Stop>
 }
 
 /// Loads the image and then the scripts.
-pub fn load_files<S: Shelf>(
-    alloc: Global,
-    shelf: &mut S,
-    run: &RunWords<'_>,
-) -> Result<Files, Stop>
+pub fn load_files<S: Shelf>(alloc: Global, shelf: &mut S, run: &RunWords<'_>) -> Result<Files, Stop>
     ensures same { (S.seen shelf.new).told ≡ (S.seen shelf.old).told }
     ensures calm { OnOk result ((S.seen shelf.new).faults ≡ (S.seen shelf.old).faults) }
     ensures files { IfOk result (λ files. AreFiles (S.seen shelf.old).told (run_seen run.now) files.image files.scripts) }

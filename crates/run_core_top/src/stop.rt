@@ -19,9 +19,16 @@ pub enum Stop {
     Words,
     Memory,
     /// The image is too long or not of the grammar. The line counts from 1; 0 is the whole.
-    Image { line: u64, kind: ImageKind },
+    Image {
+        line: u64,
+        kind: ImageKind,
+    },
     /// The script of this core is too long or not of the form, from this record on; or there is no such core.
-    Script { core: u64, at: u64, kind: ScriptKind },
+    Script {
+        core: u64,
+        at: u64,
+        kind: ScriptKind,
+    },
     /// The load of a file failed: 0 is the image, 1 + i the script of core i.
     Read(u64),
     /// A write of the report failed.

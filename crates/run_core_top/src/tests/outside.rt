@@ -230,7 +230,8 @@ fn a_brief_report_has_no_history(rt: HostRuntime) -> Result<(), Fail> {
     );
     assert_eq!(rt; ran.status, 0);
     assert_eq!(rt; ran.trace.len(), 4);
-    let begin = b"svsm-run 1\ncore 0x0 request 0x0 reply 0x0 0x100000001 0x0 0x0 0x0\ncore 0x0 done\ncore 0x1 unstarted\nrmp 0x0 0x5 module recorded valid 0x0 plain small\n";
+    let begin =
+        b"svsm-run 1\ncore 0x0 request 0x0 reply 0x0 0x100000001 0x0 0x0 0x0\ncore 0x0 done\ncore 0x1 unstarted\nrmp 0x0 0x5 module recorded valid 0x0 plain small\n";
     assert!(rt; out.bytes().starts_with(begin.as_slice()));
     assert!(rt; REPORT.ends_with(&out.bytes()[begin.len()..]));
     Ok(())
@@ -246,7 +247,8 @@ impl Gate for Recording {
     fn pass(&self, core: u32, place: u64, made: u64) {
         let step = (u64::from(core) << 6) | (place << 4) | made;
         let given = self.given.load(Ordering::SeqCst);
-        self.given.store((given << 8) | (step & 0xff), Ordering::SeqCst);
+        self.given
+            .store((given << 8) | (step & 0xff), Ordering::SeqCst);
     }
 }
 

@@ -12,6 +12,7 @@ returns-in-Ok-read_image-clause-read g c =
 
 pub returns-in-Err-Bad-clause-stop : goal.returns-in-Err-Bad-clause-stop
 returns-in-Err-Bad-clause-stop g c =
-    let h = rw c.in-Err-Bad.field-0-is at c.in-Err-Bad.ensures in
-    (c.in-Ok.ensures.cause.faults,
-        bad_image _ c.in-Ok.bytes.items _ c.in-Err-Bad.line c.in-Err-Bad.kind c.in-Ok.ensures.bytes c.in-Ok.ensures.fits c.deref.ensures.value h.tells)
+    let h = rw c.in-Err-Bad.field-0-is at c.in-Err-Bad.ensures in (
+      c.in-Ok.ensures.cause.faults,
+      bad_image _ c.in-Ok.bytes.items _ c.in-Err-Bad.line c.in-Err-Bad.kind c.in-Ok.ensures.bytes c.in-Ok.ensures.fits c.deref.ensures.value h.tells,
+    )

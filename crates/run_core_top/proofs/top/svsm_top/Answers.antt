@@ -100,12 +100,12 @@ pub returns-in-Ok-append_all-clause-refused : goal.returns-in-Ok-append_all-clau
 returns-in-Ok-append_all-clause-refused g c =
     let h = rw c.in-Ok-Some.field-0-is at c.in-Ok-Some.ensures in
     λ run is refused. absurd
-        (not_refused (g.S.Shelf.seen c.args.shelf.now).told (map string_bytes c.args.words.now) (run_seen c.in-Ok-Some.run') run
-        c.in-Ok.ensures.report.0.image c.in-Ok.ensures.report.0.scripts (sym h.run) is c.in-Ok.ensures.report.0.files refused)
+    (not_refused (g.S.Shelf.seen c.args.shelf.now).told (map string_bytes c.args.words.now) (run_seen c.in-Ok-Some.run') run
+    c.in-Ok.ensures.report.0.image c.in-Ok.ensures.report.0.scripts (sym h.run) is c.in-Ok.ensures.report.0.files refused)
 
 pub returns-clause-refused : goal.returns-clause-refused
 returns-clause-refused g c =
     let h = rw c.in-Ok-Some.field-0-is at c.in-Ok-Some.ensures in
     λ run is refused. absurd
-        (not_refused (g.S.Shelf.seen c.args.shelf.now).told (map string_bytes c.args.words.now) (run_seen c.in-Ok-Some.run') run
-        c.in-Ok.ensures.report.0.image c.in-Ok.ensures.report.0.scripts (sym h.run) is c.in-Ok.ensures.report.0.files refused)
+    (not_refused (g.S.Shelf.seen c.args.shelf.now).told (map string_bytes c.args.words.now) (run_seen c.in-Ok-Some.run') run
+    c.in-Ok.ensures.report.0.image c.in-Ok.ensures.report.0.scripts (sym h.run) is c.in-Ok.ensures.report.0.files refused)
