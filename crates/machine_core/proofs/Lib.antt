@@ -9,3 +9,4 @@ pub mod BootLemmas
 pub mod OpenLemmas
 pub mod ImageLemmas
 pub mod FollowLemmas
+pub mod WorkedLemmas

@@ -6,3 +6,4 @@ pub mod Boots
 pub mod Pools
 pub mod Bootable
 pub mod Played
+pub mod Worked

@@ -19,3 +19,6 @@ mod step;
 pub use history::play;
 pub use machine::Machine;
 pub use play_error::PlayError;
+
+#[cfg(test)]
+mod tests;

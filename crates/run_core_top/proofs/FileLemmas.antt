@@ -10,8 +10,9 @@ use Rattle.script_reader.specs.declared.error.ScriptKind.{ScriptKind}
 use Rattle.script_reader.specs.declared.error.ScriptKind.TheVariants.{Long}
 use Rattle.command_words.specs.Words.{Run}
 use Rattle.script_reader.specs.Grammar.{script_of}
-use Rattle.run_core_top.specs.declared.image.ImageKind.{ImageKind}
-use Rattle.run_core_top.specs.declared.image.ImageKind.TheVariants.{Unbuilt}
+use Rattle.run_core_top.specs.declared.image.ImageRefusal.{ImageRefusal}
+use Rattle.image_reader.specs.declared.kind.ImageKind.TheVariants as images
+use Rattle.run_core_top.specs.declared.image.ImageRefusal.TheVariants.{Bad}
 use Rattle.run_core_top.specs.declared.stop.Stop.{Stop}
 use Rattle.run_core_top.specs.declared.stop.Stop.TheVariants as stops
 use Rattle.run_core_top.specs.Image.{image_of}
@@ -26,7 +27,7 @@ is_long n h = grind (arith, nat_tests)
 is_short : (n : ℕ) → n ≤ file_limit → nat_lt file_limit n ≡ false
 is_short n h = grind (arith, nat_tests)
 
-long_image : (bytes : List ℕ) → file_limit < length bytes → image_in bytes ≡ Err (0, Unbuilt)
+long_image : (bytes : List ℕ) → file_limit < length bytes → image_in bytes ≡ Err (0, Bad images.Long)
 unfolding image_in
 long_image bytes h = rw (is_long (length bytes) h) refl
 
@@ -50,7 +51,7 @@ agrees : (told : Option (List ℕ)) (bytes : List ℕ) → IsLoaded told bytes �
 agrees None bytes h = tt
 agrees (Some known) bytes h = h.0
 
-pub too_long_image : (told : Option (List ℕ)) → IfSome told (λ (known : List ℕ). file_limit < length known) → IsBadImage told 0 Unbuilt
+pub too_long_image : (told : Option (List ℕ)) → IfSome told (λ (known : List ℕ). file_limit < length known) → IsBadImage told 0 (Bad images.Long)
 too_long_image None h = tt
 too_long_image (Some known) h = long_image known h
 
@@ -74,7 +75,7 @@ read_script told bytes items script loaded fits same said = record {
   read = short_script bytes fits ∙ (ap script_of (sym same) ∙ said);
 }
 
-pub bad_image : (told : Option (List ℕ)) (bytes items : List ℕ) (line : ℕ) (kind : ImageKind) → IsLoaded told bytes → length bytes ≤ file_limit
+pub bad_image : (told : Option (List ℕ)) (bytes items : List ℕ) (line : ℕ) (kind : ImageRefusal) → IsLoaded told bytes → length bytes ≤ file_limit
     → items ≡ bytes → image_of items ≡ Err (line, kind) → IsBadImage told line kind
 bad_image None bytes items line kind loaded fits same said = tt
 bad_image (Some known) bytes items line kind loaded fits same said =

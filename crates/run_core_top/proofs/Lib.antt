@@ -1,3 +1,2 @@
-pub mod BaseImage
 pub mod FileLemmas
 pub mod TopLemmas

@@ -14,7 +14,7 @@ use Rattle.svsm_calls.specs.Run.{IsRun}
 use Rattle.svsm_outside.specs.Views.{ShelfView}
 use Rattle.command_words.specs.Words.{Run, run_in}
 use Rattle.script_reader.specs.declared.error.ScriptKind.{ScriptKind}
-use Rattle.run_core_top.specs.declared.image.ImageKind.{ImageKind}
+use Rattle.run_core_top.specs.declared.image.ImageRefusal.{ImageRefusal}
 use Rattle.run_core_top.specs.declared.stop.Stop.{Stop}
 use Rattle.run_core_top.specs.declared.stop.Stop.TheVariants as stops
 use Rattle.run_core_top.specs.Files.{image_in, script_in, Agrees, IsImageFile, IsScriptFile, AreScriptFiles, AreFiles}
@@ -156,7 +156,7 @@ good_scripts before now core at k (name ∷ names) good number cause =
     good_scripts before now core at k names (λ i d lt. good (suc i) d (omega arith)) (number + 1) there.1)
     cause
 
-good_image : (before now : ShelfView) (command : Run) (line : ℕ) (k : ImageKind) → AreGood before.told command
+good_image : (before now : ShelfView) (command : Run) (line : ℕ) (k : ImageRefusal) → AreGood before.told command
     → ImageCause before now command.image (stops.Image line k) → ⊥
 good_image before now command line k good cause =
     let bad = subst (λ (told : Option (List ℕ)). IsBadImage told line k) good.is_told cause.1 in

@@ -8,7 +8,7 @@ use Rattle.svsm_outside.specs.Outside.{FailedAt}
 use Rattle.command_words.specs.Words.{Run}
 use Rattle.script_reader.specs.declared.error.ScriptKind.{ScriptKind}
 use Rattle.script_reader.specs.declared.error.ScriptKind.TheVariants as kinds
-use Rattle.run_core_top.specs.declared.image.ImageKind.{ImageKind}
+use Rattle.run_core_top.specs.declared.image.ImageRefusal.{ImageRefusal}
 use Rattle.run_core_top.specs.declared.stop.Stop.{Stop}
 use Rattle.run_core_top.specs.declared.stop.Stop.TheVariants as stops
 use Rattle.run_core_top.specs.Files.{image_in, script_in, IsImageFile, IsScriptFile}
@@ -16,7 +16,7 @@ use Rattle.run_core_top.specs.Files.{image_in, script_in, IsImageFile, IsScriptF
 -- CAUSES
 
 -- a file that is told is refused so
-abbrev pub IsBadImage : Option (List ℕ) → ℕ → ImageKind → Type 0
+abbrev pub IsBadImage : Option (List ℕ) → ℕ → ImageRefusal → Type 0
 IsBadImage told line kind = IfSome told (λ bytes. image_in bytes ≡ Err (line, kind))
 
 abbrev pub IsBadScript : Option (List ℕ) → ℕ → ScriptKind → Type 0
@@ -61,7 +61,7 @@ FilesCause before now run stop =
 
 -- a file of the run is refused
 pub data IsRefused (told : List ℕ → Option (List ℕ)) (run : Run) : Type 0 where
-  image : (bytes : List ℕ) (bad : ℕ × ImageKind) → told run.image ≡ Some bytes → image_in bytes ≡ Err bad → IsRefused told run
+  image : (bytes : List ℕ) (bad : ℕ × ImageRefusal) → told run.image ≡ Some bytes → image_in bytes ≡ Err bad → IsRefused told run
   count :
       (bytes : List ℕ) (image : Image) → told run.image ≡ Some bytes → image_in bytes ≡ Ok image
       → length image.cores < length run.scripts → IsRefused told run

@@ -6,8 +6,9 @@ use Rattle.command_words.specs.Words.{Run}
 use Rattle.script_reader.specs.declared.error.ScriptKind.{ScriptKind}
 use Rattle.script_reader.specs.declared.error.ScriptKind.TheVariants.{Long}
 use Rattle.script_reader.specs.Grammar.{script_of}
-use Rattle.run_core_top.specs.declared.image.ImageKind.{ImageKind}
-use Rattle.run_core_top.specs.declared.image.ImageKind.TheVariants.{Unbuilt}
+use Rattle.image_reader.specs.declared.kind.ImageKind.TheVariants as images
+use Rattle.run_core_top.specs.declared.image.ImageRefusal.{ImageRefusal}
+use Rattle.run_core_top.specs.declared.image.ImageRefusal.TheVariants.{Bad}
 use Rattle.run_core_top.specs.Image.{image_of}
 
 -- longer files are refused
@@ -15,8 +16,8 @@ abbrev pub file_limit : ℕ
 file_limit = 16777216
 
 -- what is read of an image file, or why it is refused: it is too long, or else not of the grammar
-unfoldable pub image_in : List ℕ → Result Image (ℕ × ImageKind)
-image_in bytes = if nat_lt file_limit (length bytes) then Err (0, Unbuilt) else image_of bytes
+unfoldable pub image_in : List ℕ → Result Image (ℕ × ImageRefusal)
+image_in bytes = if nat_lt file_limit (length bytes) then Err (0, Bad images.Long) else image_of bytes
 
 -- the same of a script file
 unfoldable pub script_in : List ℕ → Result (List Request) (ℕ × ScriptKind)

@@ -1,54 +1,36 @@
--- The one image that is read: its bytes, and the machine that they describe.
-use Rattle.std.specs.Prelude.{◌≡◌, ℕ, None, Some, List, [], ◌∷◌, Result, Ok, Err, if◌then◌else◌, bytes_eq, codes, ⊤}
+-- The image of a text, where the program carries out all of it.
+use Rattle.std.specs.Prelude.{◌≡◌, ℕ, Bool, true, false, ◌&&◌, ◌==◌, length, List, Result, Ok, Err, if◌then◌else◌, ⊤}
+use Rattle.std.specs.List.{list_all}
 use Rattle.svsm_types.specs.declared.image.Image.{Image}
-use Rattle.svsm_types.specs.declared.image.Range.{Range}
-use Rattle.svsm_types.specs.declared.owner.Owner.{Owner}
-use Rattle.svsm_types.specs.declared.owner.Owner.TheVariants.{Guest, Module, Vmsa}
-use Rattle.svsm_types.specs.declared.platform.HwState.{HwState}
-use Rattle.svsm_types.specs.declared.platform.HwState.TheVariants.{Assigned, Valid}
-use Rattle.run_core_top.specs.declared.image.ImageKind.{ImageKind}
-use Rattle.run_core_top.specs.declared.image.ImageKind.TheVariants.{Unbuilt}
+use Rattle.svsm_types.specs.declared.image.HostLine.{HostLine}
+use Rattle.svsm_types.specs.declared.image.HostLine.TheVariants.{Run}
+use Rattle.image_reader.specs.declared.kind.ImageKind.{ImageKind}
+use Rattle.image_reader.specs.Image as grammar
+use Rattle.run_core_top.specs.declared.image.ImageRefusal.{ImageRefusal}
+use Rattle.run_core_top.specs.declared.image.ImageRefusal.TheVariants as refusals
 use Rattle.run_core_top.specs.declared.image.ImageError.{ImageError}
 use Rattle.run_core_top.specs.declared.image.ImageError.TheVariants.{Bad, NoMemory}
 
-unfoldable pub base_image : List ℕ
-base_image = codes "svsm-image 1\nregions 0x2\nvmpl 0x2\nfeatures 0x1\nghcb 0x5\nrange 0x0 0x5 module valid 0x0\nrange 0x5 0x1 module assigned 0x0\nrange 0x6 0xa module valid 0x0\nrange 0x10 0x1 vmsa valid 0x0\nrange 0x11 0x1ef guest valid 0xf0\nrange 0x200 0x200 guest assigned 0x0\ncore 0x0 vmsa 0x10000 caa 0x20000\ncore 0x1 parked\n"
+-- the answer to a run request of a core
+abbrev pub is_run_line : HostLine → Bool
+is_run_line (Run core number got) = true
+is_run_line _ = false
 
-abbrev pub range : ℕ → ℕ → Owner → HwState → ℕ → Range
-range first count owner state rights = record { first = record { 0 = first }; count = count; owner = owner; state = state; rights = rights }
+-- the boot against a host is not built yet: pages that it accepts, operations that are to fault, and what else the host answers
+abbrev pub is_built : Image → Bool
+is_built image = length image.accepts == 0 && (length image.faults == 0 && list_all is_run_line image.host)
 
--- two regions, a vCPU of core 0, and a parked core 1
-abbrev pub base : Image
-base = record {
-  regions = 2;
-  vmpl = record { 0 = 2 };
-  features = 1;
-  ghcb = record { 0 = 5 };
-  ranges =
-      range 0 5 Module Valid 0
-      ∷ range 5 1 Module Assigned 0
-      ∷ range 6 10 Module Valid 0
-      ∷ range 0x10 1 Vmsa Valid 0
-      ∷ range 0x11 0x1ef Guest Valid 0xf0
-      ∷ range 0x200 0x200 Guest Assigned 0
-      ∷ [];
-  large = [];
-  accepts = [];
-  cores =
-      record { apic = 0; seat = Some (record { 0 = 0x10 }, record { 0 = 0x20000 }) }
-      ∷ record { apic = 1; seat = None }
-      ∷ [];
-  fills = [];
-  faults = [];
-  host = [];
-}
+-- an image of the grammar is refused last, where it is not built
+abbrev pub built : Result Image (ℕ × ImageKind) → Result Image (ℕ × ImageRefusal)
+built (Ok image) = if is_built image then Ok image else Err (0, refusals.Unbuilt)
+built (Err wrong) = Err (wrong.0, refusals.Bad wrong.1)
 
--- the image of these bytes, or the line of the first fault in them, 0 for the whole, and its kind
-unfoldable pub image_of : List ℕ → Result Image (ℕ × ImageKind)
-image_of bytes = if bytes_eq bytes base_image then Ok base else Err (0, Unbuilt)
+-- the image of these bytes, or the first line that fails, 0 for the whole, and how
+unfoldable pub image_of : List ℕ → Result Image (ℕ × ImageRefusal)
+image_of bytes = built (grammar.image_of bytes)
 
 -- a reader answers what the grammar says, but for want of memory
-abbrev pub TellsImage : Result Image (ℕ × ImageKind) → Result Image ImageError → Type 0
+abbrev pub TellsImage : Result Image (ℕ × ImageRefusal) → Result Image ImageError → Type 0
 TellsImage said (Ok image) = said ≡ Ok image
 TellsImage said (Err (Bad line kind)) = said ≡ Err (line, kind)
 TellsImage said (Err NoMemory) = ⊤

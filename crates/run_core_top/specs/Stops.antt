@@ -2,8 +2,10 @@
 use Rattle.std.specs.Prelude.{ℕ, List, [], ◌∷◌, codes}
 use Rattle.script_reader.specs.declared.error.ScriptKind.{ScriptKind}
 use Rattle.script_reader.specs.declared.error.ScriptKind.TheVariants as scripts
-use Rattle.run_core_top.specs.declared.image.ImageKind.{ImageKind}
-use Rattle.run_core_top.specs.declared.image.ImageKind.TheVariants as images
+use Rattle.image_reader.specs.declared.kind.ImageKind.{ImageKind}
+use Rattle.image_reader.specs.declared.kind.ImageKind.TheVariants as images
+use Rattle.run_core_top.specs.declared.image.ImageRefusal.{ImageRefusal}
+use Rattle.run_core_top.specs.declared.image.ImageRefusal.TheVariants as refusals
 use Rattle.run_core_top.specs.declared.stop.Stop.{Stop}
 use Rattle.run_core_top.specs.declared.stop.Stop.TheVariants as stops
 use Rattle.svsm_text.specs.Numbers.{number}
@@ -19,8 +21,22 @@ status_of stops.Write = 6
 
 -- the word of each kind of refusal
 
-abbrev pub image_word : ImageKind → List ℕ
-image_word images.Unbuilt = codes "unbuilt"
+abbrev pub kind_word : ImageKind → List ℕ
+kind_word images.Missing = codes "missing"
+kind_word images.Line = codes "line"
+kind_word images.Number = codes "number"
+kind_word images.Range = codes "range"
+kind_word images.Overlap = codes "overlap"
+kind_word images.State = codes "state"
+kind_word images.Large = codes "large"
+kind_word images.Ghcb = codes "ghcb"
+kind_word images.Accept = codes "accept"
+kind_word images.Core = codes "core"
+kind_word images.Long = codes "long"
+
+abbrev pub image_word : ImageRefusal → List ℕ
+image_word (refusals.Bad kind) = kind_word kind
+image_word refusals.Unbuilt = codes "unbuilt"
 
 abbrev pub script_word : ScriptKind → List ℕ
 script_word scripts.Length = codes "length"

@@ -1,19 +1,21 @@
-//! The one image that is read.
-ghost use Rattle.std.specs.Prelude.{◌≡◌, IfOk, bytes_eq};
-ghost use Rattle.run_core_top.specs.declared.image.ImageError.TheVariants.{NoMemory as WantsMemory};
+//! The image of a file, as far as the program builds it.
+ghost use Rattle.std.specs.Prelude.{◌≡◌, ◌&&◌, ◌==◌, length, IfOk};
+ghost use Rattle.std.specs.List.{list_all};
 ghost use Rattle.svsm_steps.specs.Sound.{IsSound};
-ghost use Rattle.run_core_top.specs.Image.{range, base, base_image, image_of, TellsImage};
+ghost use Rattle.run_core_top.specs.declared.image.ImageError.TheVariants.{NoMemory as WantsMemory};
+ghost use Rattle.run_core_top.specs.Image.{is_run_line, is_built, image_of, TellsImage};
 
+use image_reader::ImageKind;
 use std::alloc::Global;
-use svsm_types::{CoreLine, Gpa, HwState, Image, NoMemory, Owner, Page, Range, Sequence, Vmpl};
-
-const BASE_IMAGE: &[u8] =
-    b"svsm-image 1\nregions 0x2\nvmpl 0x2\nfeatures 0x1\nghcb 0x5\nrange 0x0 0x5 module valid 0x0\nrange 0x5 0x1 module assigned 0x0\nrange 0x6 0xa module valid 0x0\nrange 0x10 0x1 vmsa valid 0x0\nrange 0x11 0x1ef guest valid 0xf0\nrange 0x200 0x200 guest assigned 0x0\ncore 0x0 vmsa 0x10000 caa 0x20000\ncore 0x1 parked\n";
+use svsm_types::{HostLine, Image, NoMemory};
 
 /// Why an image is refused.
 #[derive(Clone, Copy, Debug, PartialEq, Eq)]
-pub enum ImageKind {
-    /// It is not the one that is read.
+pub enum ImageRefusal {
+    /// It is too long, or not of the grammar.
+    Bad(ImageKind),
+    /// It accepts pages, lists faults, or has host lines other than answers to run requests: the boot
+    /// against a host is not built yet.
     Unbuilt,
 }
 
@@ -21,7 +23,7 @@ pub enum ImageKind {
 #[derive(Clone, Copy, Debug, PartialEq, Eq)]
 pub enum ImageError {
     /// The line counts from 1; 0 is the whole.
-    Bad { line: u64, kind: ImageKind },
+    Bad { line: u64, kind: ImageRefusal },
     NoMemory,
 }
 
@@ -33,84 +35,41 @@ impl From<NoMemory> for ImageError {
     }
 }
 
-#[tactic(auto, unfolding(crate::specs::Image::base_image))]
-fn is_base_image(bytes: &[u8]) -> bool
-    ensures { result ≡ bytes_eq bytes.now base_image }
+fn is_run_line(line: &HostLine) -> bool
+    ensures { result ≡ is_run_line line.now }
 {
-    bytes == BASE_IMAGE
+    matches!(*line, HostLine::Run { .. })
 }
 
-fn range(first: u64, count: u64, owner: Owner, state: HwState, rights: u16) -> Range
-    ensures { result ≡ range first count owner state rights }
+fn are_run_lines(lines: &[HostLine]) -> bool
+    ensures { result ≡ list_all is_run_line lines.now }
 {
-    Range {
-        first: Page(first),
-        count,
-        owner,
-        state,
-        rights,
-    }
+    lines.iter().all(is_run_line)
 }
 
-fn ranges(alloc: Global) -> Result<Sequence<Range>, NoMemory>
-    ensures { IfOk result (λ ranges. ranges ≡ base.ranges) }
+// Whether the program carries out all lines of an image.
+fn is_built(image: &Image) -> bool
+    ensures { result ≡ is_built image.now }
 {
-    Ok(Sequence::from_vec(vec![in alloc;
-        range(0, 5, Owner::Module, HwState::Valid, 0),
-        range(5, 1, Owner::Module, HwState::Assigned, 0),
-        range(6, 10, Owner::Module, HwState::Valid, 0),
-        range(0x10, 1, Owner::Vmsa, HwState::Valid, 0),
-        range(0x11, 0x1ef, Owner::Guest, HwState::Valid, 0xf0),
-        range(0x200, 0x200, Owner::Guest, HwState::Assigned, 0),
-    ]?))
+    image.accepts.len() == 0 && image.faults.len() == 0 && are_run_lines(image.host.as_slice())
 }
 
-fn cores(alloc: Global) -> Result<Sequence<CoreLine>, NoMemory>
-    ensures { IfOk result (λ cores. cores ≡ base.cores) }
-{
-    Ok(Sequence::from_vec(vec![in alloc;
-        CoreLine {
-            apic: 0,
-            seat: Some((Page(0x10), Gpa(0x2_0000))),
-        },
-        CoreLine {
-            apic: 1,
-            seat: None,
-        },
-    ]?))
-}
-
-fn base(alloc: Global) -> Result<Image, NoMemory>
-    ensures { IfOk result (λ image. image ≡ base) }
-{
-    let ranges = ranges(alloc)?;
-    let cores = cores(alloc)?;
-    Ok(Image {
-        regions: 2,
-        vmpl: Vmpl(2),
-        features: 1,
-        ghcb: Page(5),
-        ranges,
-        large: Sequence::new(alloc),
-        accepts: Sequence::new(alloc),
-        cores,
-        fills: Sequence::new(alloc),
-        faults: Sequence::new(alloc),
-        host: Sequence::new(alloc),
-    })
-}
-
-/// The image that these bytes describe.
-#[tactic(auto, using(crate::proofs::BaseImage::base_is_sound), unfolding(crate::specs::Image::image_of))]
+/// The image that these bytes describe, where the program carries out all of it.
+#[tactic(auto, unfolding(crate::specs::Image::image_of))]
 pub fn read_image(alloc: Global, bytes: &[u8]) -> Result<Image, ImageError>
     ensures tells { TellsImage (image_of bytes.now) result }
-    ensures sound { IfOk result (λ image. IsSound image) }
+    ensures sound { IfOk result IsSound }
 {
-    if !is_base_image(bytes) {
-        return Err(ImageError::Bad {
+    match image_reader::read_image(alloc, bytes) {
+        Ok(image) if is_built(&image) => Ok(image),
+        Ok(_) => Err(ImageError::Bad {
             line: 0,
-            kind: ImageKind::Unbuilt,
-        });
+            kind: ImageRefusal::Unbuilt,
+        }),
+        Err(image_reader::ImageError::Bad { line, kind }) => Err(ImageError::Bad {
+            line,
+            kind: ImageRefusal::Bad(kind),
+        }),
+        Err(image_reader::ImageError::NoMemory) => Err(ImageError::NoMemory),
     }
-    Ok(base(alloc)?)
 }

@@ -6,9 +6,10 @@ ghost use Rattle.command_words.specs.Seen.{run_seen};
 ghost use Rattle.run_core_top.specs.Files.{IsImageFile, IsScriptFile, AreScriptFiles, AreFiles};
 ghost use Rattle.run_core_top.specs.Causes.{ImageCause, ScriptCause, ScriptsCause, IsTooMany, FilesCause};
 
-use crate::image::{ImageError, ImageKind, read_image};
+use crate::image::{ImageError, ImageRefusal, read_image};
 use crate::stop::Stop;
 use command_words::RunWords;
+use image_reader::ImageKind;
 use script_reader::{ScriptError, ScriptKind, read_script};
 use std::alloc::Global;
 use svsm_outside::{LoadError, Shelf};
@@ -37,7 +38,7 @@ fn load_image<S: Shelf>(alloc: Global, shelf: &mut S, name: &str) -> Result<Imag
         Err(LoadError::TooLong) => {
             return Err(Stop::Image {
                 line: 0,
-                kind: ImageKind::Unbuilt,
+                kind: ImageRefusal::Bad(ImageKind::Long),
             });
         }
         Err(LoadError::Failed) => return Err(Stop::Read(0)),

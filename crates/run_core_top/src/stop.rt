@@ -3,10 +3,11 @@ ghost use Rattle.std.specs.Prelude.{◌≡◌, ◌⊎◌, ◌++◌, IfOk, OnOk, 
 ghost use Rattle.report.specs.Text.{spaced};
 ghost use Rattle.run_core_top.specs.declared.stop.Stop.TheVariants.{Memory};
 ghost use Rattle.svsm_outside.specs.Outside.{Tells};
-ghost use Rattle.run_core_top.specs.Stops.{status_of, image_word, script_word, stop_fields, stop_line};
+ghost use Rattle.run_core_top.specs.Stops.{status_of, kind_word, image_word, script_word, stop_fields, stop_line};
 
-use crate::image::ImageKind;
+use crate::image::ImageRefusal;
 use crate::text::{put_newline, put_number, put_text, put_word};
+use image_reader::ImageKind;
 use script_reader::ScriptKind;
 use std::alloc::Global;
 use svsm_outside::{Sink, append_all};
@@ -21,7 +22,7 @@ pub enum Stop {
     /// The image is too long or not of the grammar. The line counts from 1; 0 is the whole.
     Image {
         line: u64,
-        kind: ImageKind,
+        kind: ImageRefusal,
     },
     /// The script of this core is too long or not of the form, from this record on; or there is no such core.
     Script {
@@ -55,11 +56,30 @@ pub fn status_of(stop: Stop) -> u8
     }
 }
 
-fn image_word(kind: ImageKind) -> &'static str
-    ensures { result.now ≡ image_word kind }
+fn kind_word(kind: ImageKind) -> &'static str
+    ensures { result.now ≡ kind_word kind }
 {
     match kind {
-        ImageKind::Unbuilt => "unbuilt",
+        ImageKind::Missing => "missing",
+        ImageKind::Line => "line",
+        ImageKind::Number => "number",
+        ImageKind::Range => "range",
+        ImageKind::Overlap => "overlap",
+        ImageKind::State => "state",
+        ImageKind::Large => "large",
+        ImageKind::Ghcb => "ghcb",
+        ImageKind::Accept => "accept",
+        ImageKind::Core => "core",
+        ImageKind::Long => "long",
+    }
+}
+
+fn image_word(refusal: ImageRefusal) -> &'static str
+    ensures { result.now ≡ image_word refusal }
+{
+    match refusal {
+        ImageRefusal::Bad(kind) => kind_word(kind),
+        ImageRefusal::Unbuilt => "unbuilt",
     }
 }
 

@@ -1,9 +1,11 @@
+mod images;
 mod outside;
 mod rows;
 
 use super::*;
-use crate::image::ImageKind;
+use crate::image::ImageRefusal;
 use crate::stop::{Stop, tell_stop};
+use image_reader::ImageKind;
 use script_reader::ScriptKind;
 use std::alloc::Global;
 use std::io;
@@ -53,9 +55,16 @@ fn each_stop_prints_its_line(rt: HostRuntime) -> Result<(), Fail> {
         (
             Stop::Image {
                 line: 0,
-                kind: ImageKind::Unbuilt,
+                kind: ImageRefusal::Unbuilt,
             },
             "svsm_run: image line 0x0 unbuilt\n",
+        ),
+        (
+            Stop::Image {
+                line: 3,
+                kind: ImageRefusal::Bad(ImageKind::Missing),
+            },
+            "svsm_run: image line 0x3 missing\n",
         ),
     ];
     for (stop, line) in stops {

@@ -156,7 +156,7 @@ fn a_sink_for_refusals_that_fails_changes_no_status(rt: HostRuntime) -> Result<(
 }
 
 // What a run on these files gave: its status, and what it wrote to `err`. Nothing was written to `out`.
-fn refusal<R: Threads + Wait + Sync + Abort>(
+pub fn refusal<R: Threads + Wait + Sync + Abort>(
     rt: &R,
     alloc: Global,
     shelf: &mut MemoryShelf,
@@ -180,12 +180,12 @@ fn files_are_refused_in_their_order(rt: HostRuntime) -> Result<(), Fail> {
     shelf.put_file("kind", &[0; 48])?;
     shelf.put_file("many", &[0; 48 * 129])?;
     let lines = [
-        ("run none short", "image line 0x0 unbuilt"),
+        ("run none short", "image line 0x0 missing"),
         ("run image short", "script 0x0 at 0x0 length"),
         ("run image script kind", "script 0x1 at 0x0 kind"),
         ("run image many", "script 0x0 at 0x80 count"),
         ("run image short short script", "script 0x2 at 0x0 core"),
-        ("run none short short script", "image line 0x0 unbuilt"),
+        ("run none short short script", "image line 0x0 missing"),
         ("run image kind gone", "script 0x0 at 0x0 kind"),
     ];
     for (line, refused) in lines {
@@ -205,7 +205,7 @@ fn a_file_may_have_16_777_216_bytes(rt: HostRuntime) -> Result<(), Fail> {
     shelf.put_file("long", &most)?;
     shelf.put_file("most", &most[1..])?;
     let lines = [
-        ("run long script", "image line 0x0 unbuilt"),
+        ("run long script", "image line 0x0 long"),
         ("run image long", "script 0x0 at 0x0 long"),
         ("run image most", "script 0x0 at 0x55555 length"),
     ];

@@ -7,13 +7,13 @@ use std::sync::Wait;
 use std::thread::Threads;
 
 // The six words of a request.
-type Record = [u64; 6];
+pub type Record = [u64; 6];
 
 // The list of the guest, and the places of its entries.
-const LIST: u64 = 0x2_1000;
+pub const LIST: u64 = 0x2_1000;
 
 // The guest, at VMPL 2, writes a word.
-fn write(address: u64, word: u64) -> Record {
+pub fn write(address: u64, word: u64) -> Record {
     [1, address, word, 2, 0, 0]
 }
 
@@ -27,7 +27,7 @@ fn call(rax: u64, rcx: u64) -> Record {
 }
 
 // A call with the list of the guest, which no poll stops.
-fn list_call(rax: u64) -> Record {
+pub fn list_call(rax: u64) -> Record {
     call(rax, LIST)
 }
 
@@ -74,8 +74,21 @@ fn expect<R: Threads + Wait + Sync + Abort>(
     status: u8,
     pieces: &[&str],
 ) -> Result<(), Fail> {
+    expect_on(rt, alloc, IMAGE, first, second, status, pieces)
+}
+
+// The same on another image.
+pub fn expect_on<R: Threads + Wait + Sync + Abort>(
+    rt: &R,
+    alloc: Global,
+    image: &[u8],
+    first: &[Record],
+    second: &[Record],
+    status: u8,
+    pieces: &[&str],
+) -> Result<(), Fail> {
     let mut shelf = MemoryShelf::new(alloc, &[])?;
-    shelf.put_file("image", IMAGE)?;
+    shelf.put_file("image", image)?;
     shelf.put_file("first", &script_of(alloc, first)?)?;
     shelf.put_file("second", &script_of(alloc, second)?)?;
     let mut out = sink(alloc)?;

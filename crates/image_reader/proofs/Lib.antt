@@ -1,0 +1,5 @@
+pub mod WordLemmas
+pub mod TableLemmas
+pub mod SoFarLemmas
+pub mod SoundLemmas
+pub mod ReadLemmas
