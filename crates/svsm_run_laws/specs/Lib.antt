@@ -1,0 +1,12 @@
+pub mod Holding
+pub mod Follows
+pub mod Accounts
+pub mod Kept
+pub mod Balances
+pub mod Formed
+pub mod Entering
+pub mod TwoCores
+pub mod TwoCalls
+pub mod WorkedCalls
+pub mod TwoWaves
+pub mod StepFacts
