@@ -16,14 +16,14 @@ use Rattle.svsm_steps.specs.Lawful.{IsLawful, IsReplayOf, AreBelow}
 use Rattle.svsm_steps.specs.Made.{made_of, made_by}
 use Rattle.svsm_steps.specs.Partition.{of_core}
 use Rattle.svsm_steps.specs.Places.{PlaceValue, of_place}
-use Rattle.range_locks.specs.declared.view.Run.{Run}
+use Rattle.range_locks.specs.declared.view.Joined.{Joined}
 use Rattle.range_locks.specs.declared.view.Hand.TheVariants.{Held}
 use Rattle.range_locks.specs.declared.view.View.{View}
 use Rattle.range_locks.specs.declared.view.View.TheVariants.{First, Core}
-use Rattle.range_locks.specs.Views.{joined_run}
+use Rattle.range_locks.specs.Views.{made_in}
 use Rattle.range_locks.specs.Passes.{is_joined}
 use Rattle.range_locks.specs.Rule.{IsAtHome, AreJoined, IsLocked}
-use Rattle.range_locks.specs.Closed.{AreRuns, IsReturned, IsClosed}
+use Rattle.range_locks.specs.Closed.{AreMadeBy, IsReturned, IsClosed}
 use Rattle.range_locks.proofs.Keeps.{in_range, knows}
 
 -- a lawful place with nothing pending is the replay of its log, from what it was given with
@@ -38,20 +38,20 @@ module _ {P : Type 0} (m : Ghosts P) (given : List P) where
   Rule = IsLocked m given
 
   -- a pass that was joined has no seat
-  gone_of : (owner : ℕ → ℕ) (c : ℕ) (r : Run) (rs : List Run) (b : Bool) → (r.core == c) ≡ b → (is_joined c (map joined_run rs) ≡ true → owner c ≡ 0) → owner r.core ≡ 0
-      → (b || is_joined c (map joined_run rs)) ≡ true → owner c ≡ 0
+  gone_of : (owner : ℕ → ℕ) (c : ℕ) (r : Joined) (rs : List Joined) (b : Bool) → (r.core == c) ≡ b → (is_joined c (map made_in rs) ≡ true → owner c ≡ 0) → owner r.core ≡ 0
+      → (b || is_joined c (map made_in rs)) ≡ true → owner c ≡ 0
   gone_of owner c r rs true is rest here e = ap owner (sym (eqb-true r.core c is)) ∙ here
   gone_of owner c r rs false is rest here e = rest e
 
-  gone : (ws : List ℕ) (h : List Entry) (count : ℕ) (owner holder : ℕ → ℕ) (j c : ℕ) (rs : List Run) → AreJoined m given ws h count owner holder j rs → is_joined c (map joined_run rs) ≡ true → owner c ≡ 0
+  gone : (ws : List ℕ) (h : List Entry) (count : ℕ) (owner holder : ℕ → ℕ) (j c : ℕ) (rs : List Joined) → AreJoined m given ws h count owner holder j rs → is_joined c (map made_in rs) ≡ true → owner c ≡ 0
   gone ws h count owner holder j c [] k e = absurd (cc)
   gone ws h count owner holder j c (r ∷ rs) k e = gone_of owner c r rs (r.core == c) refl (gone ws h count owner holder j c rs k.1) k.0.1 e
 
-  runs : (ws : List ℕ) (h : List Entry) (count : ℕ) (owner holder : ℕ → ℕ) (j : ℕ) (rs : List Run) → AreJoined m given ws h count owner holder j rs → AreRuns h (map joined_run rs)
+  runs : (ws : List ℕ) (h : List Entry) (count : ℕ) (owner holder : ℕ → ℕ) (j : ℕ) (rs : List Joined) → AreJoined m given ws h count owner holder j rs → AreMadeBy h (map made_in rs)
   runs ws h count owner holder j [] k = tt
   runs ws h count owner holder j (r ∷ rs) k = (ap (λ (l : List Entry). map made_of l) k.0.2, runs ws h count owner holder j rs k.1)
 
-  module _ (id n : ℕ) (v : View P) (joined : List Run) (ws : List ℕ) (xs : List (Option P)) (is : v ≡ First n joined) (all : (c : ℕ) → c < n → is_joined c (map joined_run joined) ≡ true) (f : Final (Seen Rule id v) ws xs) (wide : length xs ≡ length given) where
+  module _ (id n : ℕ) (v : View P) (joined : List Joined) (ws : List ℕ) (xs : List (Option P)) (is : v ≡ First n joined) (all : (c : ℕ) → c < n → is_joined c (map made_in joined) ≡ true) (f : Final (Seen Rule id v) ws xs) (wide : length xs ≡ length given) where
     at_home : (p : ℕ) → p < length given → (x : P) × (get_elem? xs p ≡ some (Some x)) × IsAtHome m given p x × (m.log x ≡ of_place p f.1.0.history)
     at_home p inside = let s = f.0 in let r = f.1.0 in let mine = knows m given s r id v (First n joined) f.1.1 is in let lock = r.each_lock p inside in
         dite (ℕ_discrete (get_or s.words (p + 1) 0) 0)
@@ -68,7 +68,7 @@ module _ {P : Type 0} (m : Ghosts P) (given : List P) where
     pub closes : (regions : ℕ) (places : List P) → regions + 2 ≡ length given → length places ≡ length xs
         → ((p : ℕ) (x : P) → get_elem? places p ≡ some x → get_elem? xs p ≡ some (Some x))
         → ((p : ℕ) (x : P) → get_elem? places p ≡ some x → IsLawful (m.apics x) (m.opening x) (m.log x) (m.pending x) (m.state x))
-        → IsClosed m regions given n (map joined_run joined) places
+        → IsClosed m regions given n (map made_in joined) places
     closes regions places sized long same lawful =
         let s = f.0 in let r = f.1.0 in
         let mine = knows m given s r id v (First n joined) f.1.1 is in
@@ -81,6 +81,7 @@ module _ {P : Type 0} (m : Ghosts P) (given : List P) where
           at_places = subst (λ (k : ℕ). HaveTheirPlaces k r.history) same_regions history.at_places;
           formed = subst (λ (k : ℕ). AreWellFormed k r.history) same_regions history.formed;
           below = subst (λ (k : ℕ). AreBelow k r.history) same_regions history.below;
+          as_given = sym sized;
           as_many = long ∙ (wide ∙ sym sized);
           each_place = λ p old x there at. let low = in_range places p x at in let h = at_home p (omega arith) in
               let eq = some-injective (Some h.0) (Some x) (sym h.1 ∙ same p x at) in let eq' : h.0 ≡ x = cc in
@@ -94,6 +95,6 @@ module _ {P : Type 0} (m : Ghosts P) (given : List P) where
                 log_is = home.1;
                 state_is = at_rest (m.apics x) (m.apics old) (m.opening x) (m.opening old) (m.log x) (m.pending x) (m.state x) (home.0.apics_is old there) (home.0.opening_is old there) home.0.at_rest (lawful p x at);
               };
-          each_run = runs s.words r.history r.count r.owner r.holder id joined mine.2;
+          each_core = runs s.words r.history r.count r.owner r.holder id joined mine.2;
           no_other = λ c le. ap (λ (l : List Entry). map made_of l) (r.unmade c (omega arith));
         }

@@ -15,7 +15,7 @@ use Rattle.svsm_steps.specs.declared.place_state.Pending.{Pending}
 use Rattle.svsm_steps.specs.declared.place_state.PlaceState.{Ghosts}
 use Rattle.svsm_steps.specs.Formed.{IsWellFormed}
 use Rattle.svsm_steps.specs.Lawful.{IsAbove}
-use Rattle.range_locks.specs.declared.view.Run.{Run}
+use Rattle.range_locks.specs.declared.view.Joined.{Joined}
 use Rattle.range_locks.specs.declared.view.Hand.{Hand}
 use Rattle.range_locks.specs.declared.view.Hand.TheVariants.{Free, Held}
 use Rattle.range_locks.specs.declared.view.View.{View}
@@ -91,7 +91,7 @@ module _ {P : Type 0} (m : Ghosts P) (given : List P) where
   Rule = IsLocked m given
 
   -- what another seat knows stays so
-  joined_stay : (ws ws' : List ℕ) (h h' : List Entry) (made : ℕ) (owner holder holder' : ℕ → ℕ) (j : ℕ) → ((c : ℕ) → owner c ≡ 0 → of_core c h ≡ of_core c h') → (rs : List Run)
+  joined_stay : (ws ws' : List ℕ) (h h' : List Entry) (made : ℕ) (owner holder holder' : ℕ → ℕ) (j : ℕ) → ((c : ℕ) → owner c ≡ 0 → of_core c h ≡ of_core c h') → (rs : List Joined)
       → AreJoined m given ws h made owner holder j rs → AreJoined m given ws' h' made owner holder' j rs
   joined_stay ws ws' h h' made owner holder holder' j same [] k = tt
   joined_stay ws ws' h h' made owner holder holder' j same (r ∷ rs) k = ((k.0.0, k.0.1, k.0.2 ∙ same r.core k.0.1), joined_stay ws ws' h h' made owner holder holder' j same rs k.1)

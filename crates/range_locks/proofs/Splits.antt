@@ -9,7 +9,7 @@ use Rattle.atomic_table.proofs.Lists.{at_set, set_here, set_else, at_longer}
 use Rattle.svsm_steps.specs.declared.entry.Entry.{Entry}
 use Rattle.svsm_steps.specs.declared.place_state.Pending.{Pending}
 use Rattle.svsm_steps.specs.declared.place_state.PlaceState.{Ghosts}
-use Rattle.range_locks.specs.declared.view.Run.{Run}
+use Rattle.range_locks.specs.declared.view.Joined.{Joined}
 use Rattle.range_locks.specs.declared.view.Hand.{Hand}
 use Rattle.range_locks.specs.declared.view.Hand.TheVariants.{Free, Held}
 use Rattle.range_locks.specs.declared.view.View.{View}
@@ -40,7 +40,7 @@ module _ {P : Type 0} (m : Ghosts P) (given : List P) where
   abbrev Rule : State (Option P) V → Type 0
   Rule = IsLocked m given
 
-  joined_on : (ws : List ℕ) (h : List Entry) (made made' : ℕ) (owner owner' holder : ℕ → ℕ) (j : ℕ) → made ≤ made' → ((c : ℕ) → c < made → owner c ≡ 0 → owner' c ≡ 0) → (rs : List Run)
+  joined_on : (ws : List ℕ) (h : List Entry) (made made' : ℕ) (owner owner' holder : ℕ → ℕ) (j : ℕ) → made ≤ made' → ((c : ℕ) → c < made → owner c ≡ 0 → owner' c ≡ 0) → (rs : List Joined)
       → AreJoined m given ws h made owner holder j rs → AreJoined m given ws h made' owner' holder j rs
   joined_on ws h made made' owner owner' holder j le same [] k = tt
   joined_on ws h made made' owner owner' holder j le same (r ∷ rs) k = let a : r.core < made = k.0.0 in ((omega arith, same r.core a k.0.1, k.0.2), joined_on ws h made made' owner owner' holder j le same rs k.1)
@@ -60,7 +60,7 @@ module _ {P : Type 0} (m : Ghosts P) (given : List P) where
   not_it vs id i v u at there apart same = apart (some-injective v u (sym at ∙ (ap (get_elem? vs) (sym same) ∙ there)))
 
   -- split
-  pub cuts : (id : ℕ) (v : V) (n : ℕ) (joined : List Run) → v ≡ First n joined → n < 1024 → Splits Rule id v (one_more v) (newcomer v)
+  pub cuts : (id : ℕ) (v : V) (n : ℕ) (joined : List Joined) → v ≡ First n joined → n < 1024 → Splits Rule id v (one_more v) (newcomer v)
   cuts id v n joined is few s r at = subst (λ (u : V). Rule record { words = s.words; homes = s.homes; views = set s.views id (one_more u) ++ newcomer u ∷ [] }) (sym is) (
       let w : V = First (n + 1) joined in
       let new : V = Core n [] Free in
@@ -101,7 +101,7 @@ module _ {P : Type 0} (m : Ghosts P) (given : List P) where
       })
 
   -- join
-  pub glues : (id : ℕ) (v : V) (other : ℕ) (u : V) (n : ℕ) (joined : List Run) (c : ℕ) (own : List Entry) → v ≡ First n joined → u ≡ Core c own Free → Joins Rule id v other u (taken_in v u) Spent
+  pub glues : (id : ℕ) (v : V) (other : ℕ) (u : V) (n : ℕ) (joined : List Joined) (c : ℕ) (own : List Entry) → v ≡ First n joined → u ≡ Core c own Free → Joins Rule id v other u (taken_in v u) Spent
   glues id v other u n joined c own is was s r at apart there = subst (λ (z : V × V). Rule record { words = s.words; homes = s.homes; views = set (set s.views id (taken_in z.0 z.1)) other Spent }) (λ i. (sym is i, sym was i)) (
       let w : V = First n (record { core = c; entries = own } ∷ joined) in
       let front : List V = set s.views id w in

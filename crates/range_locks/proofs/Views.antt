@@ -1,5 +1,6 @@
 -- What a test of a view says.
 use Rattle.std.proofs.Common.{◌≡◌, ℕ, ◌+◌, Bool, true, false, List, [], ◌∷◌, ◌++◌, map, length, refl, sym, ap, subst, ◌∙◌}
+use lib.ListN.{length-map}
 use Rattle.std.proofs.lemmas.List.{map-append}
 use Rattle.svsm_steps.specs.declared.entry.Entry.{Entry}
 use Rattle.svsm_steps.specs.Made.{Made, made_of}
@@ -7,7 +8,7 @@ use Rattle.range_locks.specs.declared.view.Hand.{Hand}
 use Rattle.range_locks.specs.declared.view.Hand.TheVariants.{Free, Held}
 use Rattle.range_locks.specs.declared.view.View.{View}
 use Rattle.range_locks.specs.declared.view.View.TheVariants.{Spent, First, Core}
-use Rattle.range_locks.specs.Views.{is_free, is_core, is_first_view, core_in, entries_in, count_in, runs_in, joined_run}
+use Rattle.range_locks.specs.Views.{is_free, is_core, is_first_view, core_in, entries_in, count_in, runs_in, made_in}
 use Rattle.range_locks.specs.Plays.{one_more, newcomer, taken_in}
 
 module _ {P : Type 0} where
@@ -42,8 +43,12 @@ module _ {P : Type 0} where
   newcomer_is v e = rw (first_is v e) (refl, refl, refl)
 
   pub taken_in_is : (v w : View P) → is_first_view v ≡ true → is_core w ≡ true
-      → (is_first_view (taken_in v w) ≡ true) × (count_in (taken_in v w) ≡ count_in v) × (map joined_run (runs_in (taken_in v w)) ≡ (core_in w, map made_of (entries_in w)) ∷ map joined_run (runs_in v))
+      → (is_first_view (taken_in v w) ≡ true) × (count_in (taken_in v w) ≡ count_in v) × (map made_in (runs_in (taken_in v w)) ≡ (core_in w, map made_of (entries_in w)) ∷ map made_in (runs_in v))
   taken_in_is v w e f = rw (first_is v e, core_is w f) (refl, refl, refl)
+
+  -- a split pass has made as many steps as it has entries
+  pub count_is : (v : View P) → is_core v ≡ true → count_in v ≡ length (map made_of (entries_in v))
+  count_is v e = rw (core_is v e) (sym (length-map (entries_in v) made_of))
 
 -- what was made, after one entry more
 pub made_more : (own own' : List Entry) (e : Entry) → own' ≡ own ++ e ∷ [] → map made_of own' ≡ map made_of own ++ made_of e ∷ []

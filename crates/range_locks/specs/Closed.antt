@@ -11,9 +11,9 @@ use Rattle.svsm_steps.specs.Made.{Made, made_by}
 use Rattle.svsm_steps.specs.Places.{of_place}
 
 -- each joined pass made what the history has of its core
-abbrev pub AreRuns : List Entry → List (ℕ × List Made) → Type 0
-AreRuns history [] = ⊤
-AreRuns history (run ∷ runs) = (run.1 ≡ made_by run.0 history) × AreRuns history runs
+abbrev pub AreMadeBy : List Entry → List (ℕ × List Made) → Type 0
+AreMadeBy history [] = ⊤
+AreMadeBy history (run ∷ runs) = (run.1 ≡ made_by run.0 history) × AreMadeBy history runs
 
 -- A place that comes back, beside the one that was given there: its number and constants are as they were, its log is what the
 -- history has of it, and its state is the replay of that log from the opening state of the place that was given
@@ -26,17 +26,19 @@ pub record IsReturned {P : Type 0} (members : Ghosts P) (regions : ℕ) (history
   pub log_is : members.log place ≡ of_place number history
   pub state_is : IsReplayOf (members.apics given) (members.opening given) (members.log place) (members.state place)
 
--- There is one history, in the order of its tickets, of well-formed steps at their places. Each log and each joined pass's list is
--- what it has of that place and of that core, and no other core has entries
-pub record IsClosed {P : Type 0} (members : Ghosts P) (regions : ℕ) (given : List P) (made : ℕ) (joined : List (ℕ × List Made)) (places : List P) : Type 0 where
+-- All passes of a table were joined, and its places are back. There is one history, in the order of its tickets, of well-formed
+-- steps, each at its place. Each log is what it has of the place, each joined pass made what it has of the core, and no other
+-- core has entries
+pub record IsClosed {P : Type 0} (members : Ghosts P) (regions : ℕ) (given : List P) (count : ℕ) (joined : List (ℕ × List Made)) (places : List P) : Type 0 where
   pub history : List Entry
   pub tickets : HaveTicketsFrom 0 history
   pub at_places : HaveTheirPlaces regions history
   pub formed : AreWellFormed regions history
   pub below : AreBelow regions history
+  pub as_given : length given ≡ regions + 2
   pub as_many : length places ≡ regions + 2
   pub each_place :
       (number : ℕ) (old new : P) → get_elem? given number ≡ some old → get_elem? places number ≡ some new
       → IsReturned members regions history number old new
-  pub each_run : AreRuns history joined
-  pub no_other : (core : ℕ) → made ≤ core → made_by core history ≡ []
+  pub each_core : AreMadeBy history joined
+  pub no_other : (core : ℕ) → count ≤ core → made_by core history ≡ []

@@ -5,14 +5,14 @@ use Rattle.svsm_steps.specs.declared.entry.Entry.{Entry}
 use Rattle.svsm_steps.specs.declared.place_state.Pending.{Pending}
 use Rattle.svsm_steps.specs.declared.place_state.PlaceState.{Ghosts}
 use Rattle.svsm_steps.specs.Lawful.{IsAbove}
-use Rattle.range_locks.specs.declared.view.Run.{Run}
+use Rattle.range_locks.specs.declared.view.Joined.{Joined}
 use Rattle.range_locks.specs.declared.view.Hand.TheVariants.{Free, Held}
 use Rattle.range_locks.specs.declared.view.View.{View}
 use Rattle.range_locks.specs.declared.view.View.TheVariants.{First, Core}
 
 -- a view, with the slots that are out with it
-abbrev pub Hold : Type 0 → Type 0
-Hold P = Me (Option P) (View P)
+abbrev pub SeatState : Type 0 → Type 0
+SeatState P = Me (Option P) (View P)
 
 -- an atomic step on the table
 abbrev pub Move : Type 0 → Type 0
@@ -25,7 +25,7 @@ ticketed ticket number pending =
 
 module _ {P : Type 0} where
   -- the taking of a lock: one that was free is taken, with its place at rest; else nothing changes
-  abbrev pub Took : Ghosts P → Move P → Hold P → ℕ → Hold P → Type 0
+  abbrev pub Took : Ghosts P → Move P → SeatState P → ℕ → SeatState P → Type 0
   Took members move old found new =
       (core : ℕ) (entries : List Entry) → old.0 ≡ Core core entries Free
       → (found ≡ 0 → (number : ℕ) → move.word ≡ number + 1
@@ -37,7 +37,7 @@ module _ {P : Type 0} where
       × (found ≢ 0 → new ≡ old)
 
   -- the drawing of a ticket: the pending step of the place in the slot has it, and it is above those of the pass and of the log
-  abbrev pub Drew : Ghosts P → Move P → Hold P → ℕ → Hold P → Type 0
+  abbrev pub Drew : Ghosts P → Move P → SeatState P → ℕ → SeatState P → Type 0
   Drew members move old found new =
       (core number : ℕ) (entries log : List Entry) (place moved : P) (pending : Pending)
       → old.0 ≡ Core core entries (Held number place log)
@@ -49,7 +49,7 @@ module _ {P : Type 0} where
       × IsAbove found entries
 
   -- the freeing of a lock: the pass holds nothing
-  abbrev pub Freed : Move P → Hold P → ℕ → Hold P → Type 0
+  abbrev pub Freed : Move P → SeatState P → ℕ → SeatState P → Type 0
   Freed move old stored new =
       (core number : ℕ) (entries log : List Entry) (place : P)
       → old.0 ≡ Core core entries (Held number place log)

@@ -12,7 +12,7 @@ use Rattle.svsm_steps.specs.Histories.{HaveTicketsFrom, HaveTheirPlaces}
 use Rattle.svsm_steps.specs.Lawful.{AreBelow}
 use Rattle.svsm_steps.specs.Partition.{of_core}
 use Rattle.svsm_steps.specs.Places.{of_place}
-use Rattle.range_locks.specs.declared.view.Run.{Run}
+use Rattle.range_locks.specs.declared.view.Joined.{Joined}
 use Rattle.range_locks.specs.declared.view.Hand.{Hand}
 use Rattle.range_locks.specs.declared.view.Hand.TheVariants.{Free, Held}
 use Rattle.range_locks.specs.declared.view.View.{View}
@@ -46,7 +46,7 @@ module _ {P : Type 0} (members : Ghosts P) where
         × (log ≡ of_place number history)
 
     -- the lists of the joined passes, which have no seat any more
-    abbrev pub AreJoined : List Run → Type 0
+    abbrev pub AreJoined : List Joined → Type 0
     AreJoined [] = ⊤
     AreJoined (run ∷ runs) =
         ((run.core < count) × (owner run.core ≡ 0) × (run.entries ≡ of_core run.core history)) × AreJoined runs

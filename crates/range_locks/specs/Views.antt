@@ -2,7 +2,7 @@
 use Rattle.std.specs.Prelude.{◌≡◌, ℕ, Bool, true, false, List, [], ◌∷◌, map, length}
 use Rattle.svsm_steps.specs.declared.entry.Entry.{Entry}
 use Rattle.svsm_steps.specs.Made.{Made, made_of}
-use Rattle.range_locks.specs.declared.view.Run.{Run}
+use Rattle.range_locks.specs.declared.view.Joined.{Joined}
 use Rattle.range_locks.specs.declared.view.Hand.{Hand}
 use Rattle.range_locks.specs.declared.view.Hand.TheVariants.{Free, Held}
 use Rattle.range_locks.specs.declared.view.View.{View}
@@ -42,10 +42,10 @@ count_in (First count joined) = count
 count_in (Core core entries hand) = length entries
 
 -- the joined passes, the last first
-abbrev pub runs_in : {P : Type 0} → View P → List Run
+abbrev pub runs_in : {P : Type 0} → View P → List Joined
 runs_in (First count joined) = joined
 runs_in _ = []
 
 -- a joined pass: its core, and what it made
-abbrev pub joined_run : Run → ℕ × List Made
-joined_run run = (run.core, map made_of run.entries)
+abbrev pub made_in : Joined → ℕ × List Made
+made_in run = (run.core, map made_of run.entries)

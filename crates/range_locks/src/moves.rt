@@ -10,7 +10,7 @@ ghost use Rattle.range_locks.specs.declared.view.Hand.TheVariants.{Free, Held};
 ghost use Rattle.range_locks.specs.declared.view.View.TheVariants.{Core};
 
 use crate::plays::{Draw, GiveBack, Take};
-use crate::rule::{Desk, Hold};
+use crate::rule::{LockSeat, SharedTable};
 use std::alloc::Global;
 use std::sync::Wait;
 use std::thread;
@@ -18,23 +18,23 @@ use svsm_steps::{Answer, Entry, Gate, Pending, PlaceState, Step, place_of};
 use svsm_types::NoMemory;
 
 // Takes the lock of a place, and tries until it has it. The seat then has the slot of the place.
-fn lock<P: PlaceState, R: Wait>(rt: &R, desk: &Desk<P>, seat: &mut Hold<P>, place: u64)
-    requires table { seat.old.table_id ≡ desk.now.table_id }
-    requires words { desk.now.table_id.words ≡ desk.now.table_id.slots + 1 }
-    requires given { length desk.now.key.value.items ≡ desk.now.table_id.slots }
-    requires place { place < desk.now.table_id.slots }
-    requires few { desk.now.table_id.slots < 1024 }
+fn lock<P: PlaceState, R: Wait>(rt: &R, shared: &SharedTable<P>, seat: &mut LockSeat<P>, place: u64)
+    requires table { seat.old.table_id ≡ shared.now.table_id }
+    requires words { shared.now.table_id.words ≡ shared.now.table_id.slots + 1 }
+    requires given { length shared.now.key.value.items ≡ shared.now.table_id.slots }
+    requires place { place < shared.now.table_id.slots }
+    requires few { shared.now.table_id.slots < 1024 }
     requires core { is_core seat.old.me.0 ≡ true }
     requires idle { seat.old.me.1 ≡ [] }
     ensures table { (seat.new.table_id ≡ seat.old.table_id) × (seat.new.id ≡ seat.old.id) }
     ensures holds { (x : P)
         × (seat.new.me ≡ (Core (core_in seat.old.me.0) (entries_in seat.old.me.0) (Held place x (P.log x)), (place, Some x) ∷ []))
         × (P.number x ≡ place)
-        × (P.regions x + 2 ≡ desk.now.table_id.slots)
+        × (P.regions x + 2 ≡ shared.now.table_id.slots)
         × (P.pending x ≡ None) }
 {
     for _ in rt.forever() {
-        if desk.compare_exchange::<Take>(seat, place as usize + 1, 0, 1) == 0 {
+        if shared.compare_exchange::<Take>(seat, place as usize + 1, 0, 1) == 0 {
             return;
         }
         thread::yield_now();
@@ -43,35 +43,35 @@ fn lock<P: PlaceState, R: Wait>(rt: &R, desk: &Desk<P>, seat: &mut Hold<P>, plac
 }
 
 // Moves the place out of its slot.
-fn take_out<P: PlaceState>(desk: &Desk<P>, seat: &mut Hold<P>, place: u64) -> P
-    requires table { seat.old.table_id ≡ desk.now.table_id }
+fn take_out<P: PlaceState>(shared: &SharedTable<P>, seat: &mut LockSeat<P>, place: u64) -> P
+    requires table { seat.old.table_id ≡ shared.now.table_id }
     requires slot { (x : P) × (seat.old.me.1 ≡ (place, Some x) ∷ []) }
     ensures table { (seat.new.table_id ≡ seat.old.table_id) × (seat.new.id ≡ seat.old.id) }
     ensures slot { seat.old.me.1 ≡ (place, Some result) ∷ [] }
     ensures empty { seat.new.me ≡ (seat.old.me.0, (place, None) ∷ []) }
 {
-    let slot = desk.exchange(seat, place as usize, None);
+    let slot = shared.exchange(seat, place as usize, None);
     let Some(value) = slot else { unreachable!() };
     value
 }
 
 // Moves the place back into its slot.
-fn put_in<P: PlaceState>(desk: &Desk<P>, seat: &mut Hold<P>, place: u64, value: P)
-    requires table { seat.old.table_id ≡ desk.now.table_id }
+fn put_in<P: PlaceState>(shared: &SharedTable<P>, seat: &mut LockSeat<P>, place: u64, value: P)
+    requires table { seat.old.table_id ≡ shared.now.table_id }
     requires slot { seat.old.me.1 ≡ (place, None) ∷ [] }
     ensures table { (seat.new.table_id ≡ seat.old.table_id) × (seat.new.id ≡ seat.old.id) }
     ensures full { seat.new.me ≡ (seat.old.me.0, (place, Some value) ∷ []) }
 {
-    let slot = desk.exchange(seat, place as usize, Some(value));
+    let slot = shared.exchange(seat, place as usize, Some(value));
     let None = slot else { unreachable!() };
 }
 
 // Puts the place back and frees its lock.
-fn release<P: PlaceState>(desk: &Desk<P>, seat: &mut Hold<P>, place: u64, value: P)
-    requires table { seat.old.table_id ≡ desk.now.table_id }
-    requires words { desk.now.table_id.words ≡ desk.now.table_id.slots + 1 }
-    requires place { place < desk.now.table_id.slots }
-    requires few { desk.now.table_id.slots < 1024 }
+fn release<P: PlaceState>(shared: &SharedTable<P>, seat: &mut LockSeat<P>, place: u64, value: P)
+    requires table { seat.old.table_id ≡ shared.now.table_id }
+    requires words { shared.now.table_id.words ≡ shared.now.table_id.slots + 1 }
+    requires place { place < shared.now.table_id.slots }
+    requires few { shared.now.table_id.slots < 1024 }
     requires holds { (x : P)
         × (seat.old.me ≡ (Core (core_in seat.old.me.0) (entries_in seat.old.me.0) (Held place x (P.log value)), (place, None) ∷ []))
         × (P.number value ≡ P.number x)
@@ -82,23 +82,23 @@ fn release<P: PlaceState>(desk: &Desk<P>, seat: &mut Hold<P>, place: u64, value:
     ensures table { (seat.new.table_id ≡ seat.old.table_id) × (seat.new.id ≡ seat.old.id) }
     ensures idle { seat.new.me ≡ (Core (core_in seat.old.me.0) (entries_in seat.old.me.0) Free, []) }
 {
-    put_in(desk, seat, place, value);
-    desk.store::<GiveBack>(seat, place as usize + 1, 0);
+    put_in(shared, seat, place, value);
+    shared.store::<GiveBack>(seat, place as usize + 1, 0);
 }
 
 // Draws the ticket of the pending step, with the place in its slot: a seat tells nothing of a value that it has moved out.
 fn draw<P: PlaceState>(
-    desk: &Desk<P>,
-    seat: &mut Hold<P>,
+    shared: &SharedTable<P>,
+    seat: &mut LockSeat<P>,
     place: u64,
     value: P,
     regions: u64,
     pending: Pending,
 ) -> (u64, P)
-    requires table { seat.old.table_id ≡ desk.now.table_id }
-    requires words { desk.now.table_id.words ≡ desk.now.table_id.slots + 1 }
-    requires given { length desk.now.key.value.items ≡ desk.now.table_id.slots }
-    requires regions { regions + 2 ≡ desk.now.table_id.slots }
+    requires table { seat.old.table_id ≡ shared.now.table_id }
+    requires words { shared.now.table_id.words ≡ shared.now.table_id.slots + 1 }
+    requires given { length shared.now.key.value.items ≡ shared.now.table_id.slots }
+    requires regions { regions + 2 ≡ shared.now.table_id.slots }
     requires formed { IsWellFormed regions pending.step }
     requires place { place ≡ place_of regions pending.step }
     requires few { length (entries_in seat.old.me.0) < 2 ^ 32 }
@@ -115,9 +115,9 @@ fn draw<P: PlaceState>(
         × IsAbove result.0 log
         × IsAbove result.0 (entries_in seat.old.me.0) }
 {
-    put_in(desk, seat, place, value);
-    let ticket = desk.fetch_add::<Draw>(seat, 0, 1);
-    let value = take_out(desk, seat, place);
+    put_in(shared, seat, place, value);
+    let ticket = shared.fetch_add::<Draw>(seat, 0, 1);
+    let value = take_out(shared, seat, place);
     (ticket, value)
 }
 
@@ -125,18 +125,18 @@ fn draw<P: PlaceState>(
 pub(crate) fn make<P: PlaceState, R: Wait, G: Gate>(
     rt: &R,
     alloc: Global,
-    desk: &Desk<P>,
-    seat: &mut Hold<P>,
+    shared: &SharedTable<P>,
+    seat: &mut LockSeat<P>,
     gate: &G,
     regions: u64,
     core: u32,
     made: u64,
     step: &Step,
 ) -> Result<(u64, Answer), NoMemory>
-    requires table { seat.old.table_id ≡ desk.now.table_id }
-    requires words { desk.now.table_id.words ≡ desk.now.table_id.slots + 1 }
-    requires given { length desk.now.key.value.items ≡ desk.now.table_id.slots }
-    requires regions { (regions + 2 ≡ desk.now.table_id.slots) × (regions ≤ 512) }
+    requires table { seat.old.table_id ≡ shared.now.table_id }
+    requires words { shared.now.table_id.words ≡ shared.now.table_id.slots + 1 }
+    requires given { length shared.now.key.value.items ≡ shared.now.table_id.slots }
+    requires regions { (regions + 2 ≡ shared.now.table_id.slots) × (regions ≤ 512) }
     requires split { is_core seat.old.me.0 ≡ true }
     requires idle { seat.old.me.1 ≡ [] }
     requires core { core ≡ core_in seat.old.me.0 }
@@ -150,17 +150,17 @@ pub(crate) fn make<P: PlaceState, R: Wait, G: Gate>(
     ensures err { OnErr result (seat.new.me ≡ seat.old.me) }
 {
     let place = place_of(regions, step);
-    lock(rt, desk, seat, place);
-    let mut value = take_out(desk, seat, place);
+    lock(rt, shared, seat, place);
+    let mut value = take_out(shared, seat, place);
     if value.reserve(alloc, step).is_err() {
-        release(desk, seat, place, value);
+        release(shared, seat, place, value);
         return Err(NoMemory);
     }
     gate.pass(core, place, made);
     let answer = value.act(core, step);
     let step = *step;
     let pending = Pending { core, step, answer };
-    let (ticket, mut value) = draw(desk, seat, place, value, regions, pending);
+    let (ticket, mut value) = draw(shared, seat, place, value, regions, pending);
     value.put(Entry {
         ticket,
         core,
@@ -168,6 +168,6 @@ pub(crate) fn make<P: PlaceState, R: Wait, G: Gate>(
         step,
         answer,
     });
-    release(desk, seat, place, value);
+    release(shared, seat, place, value);
     Ok((ticket, answer))
 }

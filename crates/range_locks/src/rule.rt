@@ -18,8 +18,8 @@ impl<P: PlaceState> TableRule<Option<P>, View<P>, Snapshot<Vec<P>>> for Locks {
     ghost first = { λ _. First 0 [] };
 }
 
-pub type Board<P> = Table<Option<P>, View<P>, Snapshot<Vec<P>>, Locks, Global>;
+pub type OwnedTable<P> = Table<Option<P>, View<P>, Snapshot<Vec<P>>, Locks, Global>;
 
-pub type Hold<P> = Seat<Option<P>, View<P>>;
+pub type LockSeat<P> = Seat<Option<P>, View<P>>;
 
-pub type Desk<P> = Shared<Option<P>, View<P>, Snapshot<Vec<P>>, Locks>;
+pub type SharedTable<P> = Shared<Option<P>, View<P>, Snapshot<Vec<P>>, Locks>;

@@ -8,8 +8,8 @@ ghost use Rattle.svsm_steps.specs.Formed.{IsWellFormed, IsAnswer};
 use crate::Pass;
 use crate::fill::{fill, refill, unfill};
 use crate::moves::make;
-use crate::plays::{Cut, Glue};
-use crate::rule::Board;
+use crate::plays::{JoinPass, SplitPass};
+use crate::rule::OwnedTable;
 use atomic_table::{Refused, Table};
 use std::alloc::Global;
 use std::snapshot::Snapshot;
@@ -19,7 +19,7 @@ use svsm_types::NoMemory;
 
 /// A lock for each place, and the word that gives out tickets. Threads share it through a `&`.
 pub struct LockTable<P: PlaceState> {
-    table: Board<P>,
+    table: OwnedTable<P>,
     regions: u64,
     // The vector of the places, emptied, so that closing takes no memory.
     kept: Vec<P>,
@@ -91,7 +91,7 @@ impl<P: PlaceState + Send> LockTable<P> {
         ensures core { core_of result ≡ count_of first.old }
         ensures none_made { own_of result ≡ [] }
     {
-        let seat = self.table.shared.split_seat::<Cut>(&mut first.seat);
+        let seat = self.table.shared.split_seat::<SplitPass>(&mut first.seat);
         let core = first.made as u32;
         first.made += 1;
         Pass {
@@ -114,7 +114,7 @@ impl<P: PlaceState + Send> LockTable<P> {
     {
         self.table
             .shared
-            .join_seat::<Glue>(&mut first.seat, other.into_seat());
+            .join_seat::<JoinPass>(&mut first.seat, other.into_seat());
     }
 
     /// Makes a step of a split pass: its ticket and its answer. It waits for the step's place. At want of memory no ticket is drawn,
@@ -140,12 +140,12 @@ impl<P: PlaceState + Send> LockTable<P> {
         ensures answer { IfOk result (λ told. IsAnswer (regions_of self.now) step.now told.1) }
         ensures err { OnErr result (own_of pass.new ≡ own_of pass.old) }
     {
-        let desk = &self.table.shared;
+        let shared = &self.table.shared;
         let seat = &mut pass.seat;
         let told = make(
             rt,
             alloc,
-            desk,
+            shared,
             seat,
             gate,
             self.regions,

@@ -12,7 +12,7 @@ pub fetch_add-ticket-requires : goal.fetch_add-ticket-requires
 fetch_add-ticket-requires g c = let t = g.P.PlaceState in let h = c.requires.holds in let full = c.put_in.ensures.full in (
   c.put_in.ensures.table.0 ∙ c.requires.table,
   omega arith,
-  draw_allows t c.args.desk.now.key.value.items _ _ _ c.args.place _ _ h.1 h.0 c.args.value c.args.pending (ap (λ m. m.0) full ∙ ap (λ m. m.0) h.2) (ap (λ m. m.1) full)
+  draw_allows t c.args.shared.now.key.value.items _ _ _ c.args.place _ _ h.1 h.0 c.args.value c.args.pending (ap (λ m. m.0) full ∙ ap (λ m. m.0) h.2) (ap (λ m. m.1) full)
       c.requires.pending c.requires.core (sym c.requires.given) c.args.regions c.requires.regions (sym c.requires.place) c.requires.formed c.requires.few,
 )
 

@@ -11,7 +11,7 @@ pub compare_exchange-requires : goal.compare_exchange-requires
 compare_exchange-requires g c = let t = g.P.PlaceState in let i = c.loop.invariant in (
   i.table ∙ c.requires.table,
   omega arith,
-  take_allows t c.args.desk.now.key.value.items _ _ _ c.args.place _ _ (omega arith) (sym c.requires.given) (ap (λ m. m.0) i.me ∙ core_is _ c.requires.core),
+  take_allows t c.args.shared.now.key.value.items _ _ _ c.args.place _ _ (omega arith) (sym c.requires.given) (ap (λ m. m.0) i.me ∙ core_is _ c.requires.core),
 )
 
 pub returns-then-compare_exchange-eq0-clause-holds :
