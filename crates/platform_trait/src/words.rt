@@ -33,7 +33,8 @@ impl WordPages {
     pub fn set(&mut self, gpa: Gpa, word: u64)
         requires aligned { gpa.0 % 8 ≡ 0 }
         requires room { has_room self.old (page_of gpa.0) ≡ true }
-        ensures words { words_of (region_of (page_of gpa.0)) self.new ≡ with_word gpa.0 word (words_of (region_of (page_of gpa.0)) self.old) }
+        ensures words { words_of (region_of (page_of gpa.0)) self.new
+            ≡ with_word gpa.0 word (words_of (region_of (page_of gpa.0)) self.old) }
         ensures room { has_room self.new ≡ has_room self.old }
     {
         self.pages[index_of(gpa)].set(column(gpa), word);
@@ -49,14 +50,16 @@ impl WordPages {
     }
 
     fn clear_page(&mut self, page: Page)
-        ensures words { words_of (region_of page.0) self.new ≡ cleared Size.Small page.0 (words_of (region_of page.0) self.old) }
+        ensures words { words_of (region_of page.0) self.new
+            ≡ cleared Size.Small page.0 (words_of (region_of page.0) self.old) }
         ensures room { has_room self.new ≡ has_room self.old }
     {
         self.pages[(page.0 % 512) as usize].blank();
     }
 
     fn clear_all(&mut self, page: Page)
-        ensures words { words_of (region_of page.0) self.new ≡ cleared Size.Large page.0 (words_of (region_of page.0) self.old) }
+        ensures words { words_of (region_of page.0) self.new
+            ≡ cleared Size.Large page.0 (words_of (region_of page.0) self.old) }
         ensures room { has_room self.new ≡ has_room self.old }
     {
         blank_all(&mut self.pages);
@@ -64,7 +67,8 @@ impl WordPages {
 
     /// Makes all words of a page or of the region 0. A page without room costs nothing.
     pub fn clear(&mut self, page: Page, size: Size)
-        ensures words { words_of (region_of page.0) self.new ≡ cleared size page.0 (words_of (region_of page.0) self.old) }
+        ensures words { words_of (region_of page.0) self.new
+            ≡ cleared size page.0 (words_of (region_of page.0) self.old) }
         ensures room { has_room self.new ≡ has_room self.old }
     {
         match size {
