@@ -4,11 +4,11 @@ mod bench;
 mod platform;
 mod silent;
 
-use bench::{Expected, Start, assigned, strikes};
-use std::process::Abort;
+use bench::{Expected, Start, assigned, strikes, struck};
+use platform_trait::Scene;
 use std::test::Fail;
 use svsm_steps::{Answer, Step};
-use svsm_types::{Owner, Page, PageState, Perms, RmpRow, Size, Vmpl};
+use svsm_types::{Faulted, Gpa, Owner, Page, PageState, Perms, RmpRow, Size, Vmpl};
 
 const GUEST: Vmpl = Vmpl(2);
 
@@ -23,76 +23,42 @@ fn with_rights(page: PageState, rights: [u8; 3]) -> PageState {
 #[test]
 fn a_vmsa_is_read_after_the_revoke(rt: HostRuntime) -> Result<(), Fail> {
     let page = assigned(true);
-    let (large, owner, recorded) = (true, Owner::Guest, true);
+    let (owner, recorded) = (Owner::Guest, true);
     let start = Start {
         page,
-        large,
+        large: true,
         owner,
         recorded,
     };
-    // The operation that faults, the micro-operations before it, the owner and the rights after them.
-    let admitted = [
-        (0, 0, Owner::Guest, [1, 2, 4]),
-        (1, 1, Owner::Guest, [0, 2, 4]),
-        (2, 2, Owner::Guest, [0, 0, 4]),
-        (3, 4, Owner::Vmsa, [0, 0, 0]),
-        (4, 5, Owner::Vmsa, [0, 0, 0]),
-        (5, 6, Owner::Vmsa, [0, 0, 0]),
-        (6, 7, Owner::Vmsa, [0, 0, 0]),
+    // The operation that faults, the micro-operations before it, the features that are asked for, the owner and the rights. The
+    // page has the features 5; with others it is given back.
+    let taken = [
+        (0, 0, 5, Owner::Guest, [1, 2, 4]),
+        (1, 1, 5, Owner::Guest, [0, 2, 4]),
+        (2, 2, 5, Owner::Guest, [0, 0, 4]),
+        (3, 4, 5, Owner::Vmsa, [0, 0, 0]),
+        (4, 5, 5, Owner::Vmsa, [0, 0, 0]),
+        (5, 6, 5, Owner::Vmsa, [0, 0, 0]),
+        (6, 7, 5, Owner::Vmsa, [0, 0, 0]),
+        (6, 8, 6, Owner::Guest, [0, 0, 0]),
+        (7, 9, 6, Owner::Guest, [0, 0, 0]),
+        (8, 10, 6, Owner::Guest, [0, 15, 0]),
     ];
-    for (at, done, owner, rights) in admitted {
+    for (at, done, features, owner, rights) in taken {
         let step = Step::VmsaTake {
             vmpl: GUEST,
             page: Page(1),
-            features: 5,
+            features,
         };
-        let state = with_rights(page, rights);
         // The first operation in 4K splits the 2M entry, and one that faults does not.
         let row = RmpRow {
             owner,
             recorded,
-            state,
+            state: with_rights(page, rights),
             large: done == 0,
         };
-        let answer = Answer::Fault { done };
         let expected = Expected {
-            answer,
-            pages: [Page(1), Page(1)],
-            row,
-            word: 0x1000,
-        };
-        strikes(&rt, rt.alloc(), start, at, &step, expected)?;
-    }
-    Ok(())
-}
-
-#[test]
-fn a_page_that_is_no_vmsa_is_given_back(rt: HostRuntime) -> Result<(), Fail> {
-    let page = assigned(true);
-    let (large, owner, recorded) = (false, Owner::Guest, true);
-    let start = Start {
-        page,
-        large,
-        owner,
-        recorded,
-    };
-    let given_back = [(6, 8, [0, 0, 0]), (7, 9, [0, 0, 0]), (8, 10, [0, 15, 0])];
-    for (at, done, rights) in given_back {
-        let step = Step::VmsaTake {
-            vmpl: GUEST,
-            page: Page(1),
-            features: 6,
-        };
-        let state = with_rights(page, rights);
-        let row = RmpRow {
-            owner,
-            recorded,
-            state,
-            large,
-        };
-        let answer = Answer::Fault { done };
-        let expected = Expected {
-            answer,
+            answer: Answer::Fault { done },
             pages: [Page(1), Page(1)],
             row,
             word: 0x1000,
@@ -312,5 +278,22 @@ fn a_deposit_that_faulted_is_still_the_guests(rt: HostRuntime) -> Result<(), Fai
         word: 0x1000,
     };
     strikes(&rt, rt.alloc(), start, 2, &step, expected)?;
+    Ok(())
+}
+
+#[test]
+fn a_boot_shares_and_accepts(rt: HostRuntime) -> Result<(), Fail> {
+    let mut region = struck(rt.alloc(), 5)?;
+    region.host_share(Page(2));
+    assert_eq!(rt; region.accept(GUEST, Page(1), Size::Small), Ok(()));
+    let row = region.row(Page(1));
+    assert_eq!(rt; row.state, with_rights(assigned(true), [0, 15, 0]));
+    assert!(rt; row.recorded && !row.large && !region.row(Page(2)).state.assigned);
+    assert_eq!(rt; region.scene.word(Gpa(0x10D0)), 0);
+    // The operation with the number 5 faults: the PVALIDATE of the second entry.
+    assert_eq!(rt; region.accept(GUEST, Page(0), Size::Large), Err(Faulted));
+    let row = region.row(Page(1));
+    assert_eq!(rt; row.state, with_rights(assigned(false), [0, 0, 0]));
+    assert!(rt; row.recorded && row.large && !region.row(Page(0)).recorded);
     Ok(())
 }

@@ -55,6 +55,20 @@ pub(crate) struct Start {
     pub(crate) recorded: bool,
 }
 
+/// Region 0, of which all pages are assigned and the guest's, held as 2M; the operation with the number `at` faults.
+pub(crate) fn struck(alloc: Global, at: u64) -> Result<Region<Struck>, NoMemory>
+    ensures { IfOk result (λ region. region.scene.plain.region ≡ 0) }
+{
+    let scene = Struck {
+        plain: plain(alloc, assigned(false), true)?,
+        at,
+        made: 0,
+        faults: 0,
+    };
+    let owners = OwnerMap::new(alloc, &[Owner::Guest; 512], &[false; 512])?;
+    Ok(Region::new(Page(0), scene, owners))
+}
+
 /// What is to stand of two pages and of a word in page 1 after a step, with the step's answer.
 #[derive(Clone, Copy)]
 pub(crate) struct Expected {
