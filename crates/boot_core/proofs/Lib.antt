@@ -1,0 +1,16 @@
+pub mod SaidLemmas
+pub mod RegionLemmas
+pub mod GoesLemmas
+pub mod BootLemmas
+pub mod StateLemmas
+pub mod DecodeLemmas
+pub mod NumberLemmas
+pub mod TellLemmas
+pub mod WentLemmas
+pub mod CountLemmas
+pub mod ImageLemmas
+pub mod SoundLemmas
+pub mod EndLemmas
+pub mod SameLemmas
+pub mod WayLemmas
+pub mod IndexLemmas
