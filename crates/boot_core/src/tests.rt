@@ -1,3 +1,5 @@
+mod small;
+
 use super::*;
 use crate::asks::{ask_first, ask_last};
 use ghcb_page::GhcbPage;
@@ -169,5 +171,19 @@ fn one_entry_an_exit_makes_300_exits(rt: HostRuntime) -> Result<(), Fail> {
         twice,
         Err(BootError::Psc(PscError::Back { sent: 2, got: 1 }))
     );
+    Ok(())
+}
+
+#[test]
+fn a_sound_image_boots(rt: HostRuntime) -> Result<(), Fail> {
+    let alloc = rt.alloc();
+    let image = small::image(alloc)?;
+    let region = small::region(alloc)?;
+    let mut regions = [region];
+    assert_eq!(rt; boot_image(alloc, &mut regions, &image), Ok(()));
+    let mut host = HostSim::new(alloc, &image)?;
+    let other = small::region(alloc)?;
+    let mut others = [other];
+    assert_eq!(rt; boot(alloc, &mut host, &mut others, &image), Ok(()));
     Ok(())
 }
