@@ -9,6 +9,8 @@ mod refusals;
 mod region;
 mod sized;
 mod step;
+#[cfg(test)]
+mod tests;
 mod values;
 mod vmsa;
 mod words;
