@@ -1,25 +1,23 @@
 -- The image of the tests is sound, and how its region is made.
-use Rattle.std.proofs.Common.{◌≡◌, ◌<◌, ◌≤◌, ◌+◌, ℕ, zero, suc, Bool, true, false, cond, Option, Some, None, IfSome, IsSome, List, [], ◌∷◌, length, get_or, refl, sym, ap, subst, ◌∙◌, arith}
+use Rattle.std.proofs.Common.{◌≡◌, ◌≤◌, ℕ, zero, suc, Bool, true, false, cond, Option, IfSome, [], ◌∷◌, refl, sym, ap, subst, ◌∙◌, arith}
 use Rattle.std.proofs.lemmas.Bool.Decides.{nat_tests}
-use Rattle.std.specs.Prelude.{IsTrue, count_by, ◌==◌, ◌||◌, find, replicate}
-use Rattle.std.specs.List.{list_any}
+use Rattle.std.specs.Prelude.{count_by, ◌==◌, ◌||◌, replicate}
 use Rattle.std.proofs.Math.ListN.{set}
 use mathlib.Core.Path.{fun_ext}
 use Rattle.svsm_types.specs.Numbers.{Numbers}
 use Rattle.svsm_types.specs.Pages.{page_of, region_of}
 use Rattle.svsm_types.specs.Hardware.{blank}
 use Rattle.svsm_types.specs.declared.image.CoreLine.{CoreLine}
-use Rattle.svsm_types.specs.declared.owner.Owner.{Owner}
 use Rattle.svsm_types.specs.declared.owner.Owner.TheVariants.{Guest, Module, Vmsa}
 use Rattle.svsm_types.specs.declared.platform.PageState.{PageState}
 use Rattle.svsm_steps.specs.Checks.{same_owner}
 use Rattle.svsm_steps.specs.Image.{is_in_range, range_of, owner_in, page_in, region_in, words_of, image_state}
-use Rattle.svsm_steps.specs.Sound.{IsSound, has_vmsa, is_accepted, is_in_span}
+use Rattle.svsm_steps.specs.Sound.{IsSound, is_in_span}
 use Rattle.platform_trait.specs.Known.{Known}
 use Rattle.platform_trait.specs.Opened.{Begins, opened, written}
 use Rattle.platform_trait.specs.declared.opening.Opening.{Opening}
 use Rattle.owner_map.specs.Owners.{Owners}
-use Rattle.region_core.specs.Stands.{Seen, seen, Each, Stands, Tells, fresh_numbers}
+use Rattle.region_core.specs.Stands.{Seen, seen, Each, Stands, fresh_numbers}
 use Rattle.boot_core.specs.Small.{ghcb_range, accepted_span, small}
 
 -- SOUND
