@@ -15,3 +15,6 @@ mod view;
 pub use pass::Pass;
 pub use svsm_steps::Gate;
 pub use table::LockTable;
+
+#[cfg(test)]
+mod tests;

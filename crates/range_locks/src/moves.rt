@@ -160,14 +160,14 @@ pub(crate) fn make<P: PlaceState, R: Wait, G: Gate>(
     let answer = value.act(core, step);
     let step = *step;
     let pending = Pending { core, step, answer };
-    let (ticket, mut value) = draw(shared, seat, place, value, regions, pending);
-    value.put(Entry {
+    let (ticket, mut acted) = draw(shared, seat, place, value, regions, pending);
+    acted.put(Entry {
         ticket,
         core,
         place,
         step,
         answer,
     });
-    release(shared, seat, place, value);
+    release(shared, seat, place, acted);
     Ok((ticket, answer))
 }

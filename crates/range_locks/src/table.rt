@@ -91,7 +91,8 @@ impl<P: PlaceState + Send> LockTable<P> {
         ensures core { core_of result ≡ count_of first.old }
         ensures none_made { own_of result ≡ [] }
     {
-        let seat = self.table.shared.split_seat::<SplitPass>(&mut first.seat);
+        let shared = &self.table.shared;
+        let seat = shared.split_seat::<SplitPass>(&mut first.seat);
         let core = first.made as u32;
         first.made += 1;
         Pass {
@@ -112,9 +113,9 @@ impl<P: PlaceState + Send> LockTable<P> {
         ensures count { count_of first.new ≡ count_of first.old }
         ensures joined { joined_of first.new ≡ (core_of other, own_of other) ∷ joined_of first.old }
     {
-        self.table
-            .shared
-            .join_seat::<JoinPass>(&mut first.seat, other.into_seat());
+        let shared = &self.table.shared;
+        let seat = other.into_seat();
+        shared.join_seat::<JoinPass>(&mut first.seat, seat);
     }
 
     /// Makes a step of a split pass: its ticket and its answer. It waits for the step's place. At want of memory no ticket is drawn,

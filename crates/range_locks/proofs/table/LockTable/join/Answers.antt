@@ -4,7 +4,7 @@ use Rattle.range_locks.proofs.Splits.{glues}
 use Rattle.range_locks.proofs.table.LockTable.join.Goals as goal
 
 pub join_seat-requires : goal.join_seat-requires
-join_seat-requires g c = let t = g.P.PlaceState in let e = c.into_seat.ensures in (
+join_seat-requires g c = let t = g.P.PlaceState in let e = c.into_seat-seat.ensures in (
   c.requires.table,
   e.table ∙ c.requires.pass,
   ap (λ m. m.1) e.me,
