@@ -10,7 +10,7 @@ use Rattle.svsm_steps.specs.declared.place_state.Pending.{Pending}
 use Rattle.svsm_steps.specs.State.{RegionState}
 use Rattle.svsm_steps.specs.Region.{MayAnswer, region_after}
 use Rattle.svsm_steps.specs.Lawful.{IsLawful, MayPend, pending_of}
-use Rattle.svsm_steps.specs.Places.{PlaceValue, in_region, MayAt, place_after, IsReplay, replay}
+use Rattle.svsm_steps.specs.Places.{PlaceValue, in_region, place_after, IsReplay, replay}
 use Rattle.range_locks.specs.Tally.{is_of_host, is_done, are_of_host, is_pending_of_host, shared_region, tallied}
 
 both_left : (a b : Bool) → (a && b) ≡ true → a ≡ true

@@ -1,5 +1,5 @@
 -- A small place of the tests: it knows the host's steps alone, each of which is done. This project's own.
-use Rattle.std.specs.Prelude.{◌≡◌, ℕ, Bool, true, false, ◌&&◌, List, [], ◌∷◌, Option, None, Some, replicate}
+use Rattle.std.specs.Prelude.{Bool, true, false, ◌&&◌, List, [], Option, None, Some, replicate}
 use Rattle.std.specs.List.{list_all}
 use Rattle.svsm_types.specs.declared.owner.Owner.TheVariants.{Guest}
 use Rattle.svsm_types.specs.Hardware.{blank}
@@ -9,7 +9,6 @@ use Rattle.svsm_steps.specs.declared.answer.Answer.{Answer}
 use Rattle.svsm_steps.specs.declared.answer.Answer.TheVariants.{Done}
 use Rattle.svsm_steps.specs.declared.entry.Entry.{Entry}
 use Rattle.svsm_steps.specs.declared.place_state.Pending.{Pending}
-use Rattle.svsm_steps.specs.State.{RegionState}
 use Rattle.svsm_steps.specs.Lawful.{after_pending}
 use Rattle.svsm_steps.specs.Places.{PlaceValue, in_region, replay}
 

@@ -118,8 +118,8 @@ impl<P: PlaceState + Send> LockTable<P> {
         shared.join_seat::<JoinPass>(&mut first.seat, seat);
     }
 
-    /// Makes a step of a split pass: its ticket and its answer. It waits for the step's place. At want of memory no ticket is drawn,
-    /// and the place is free again.
+    /// Makes a step of a split pass: its ticket and its answer. It waits for the step's place. At want of memory no ticket
+    /// is drawn, and the place is free again.
     pub fn do_step<R: Wait, G: Gate>(
         &self,
         rt: &R,
@@ -163,7 +163,8 @@ impl<P: PlaceState + Send> LockTable<P> {
         requires table { IsPassOf self first }
         requires first { is_first first ≡ true }
         requires all { (core : ℕ) → core < count_of first → is_joined core (joined_of first) ≡ true }
-        ensures closed { IsClosed P.PlaceState (regions_of self) (given_of self) (count_of first) (joined_of first) result.items }
+        ensures closed { IsClosed P.PlaceState (regions_of self) (given_of self) (count_of first) (joined_of first)
+            result.items }
     {
         let LockTable {
             table,
