@@ -1,8 +1,8 @@
 -- Where all passes were joined, each place is at home.
-use Rattle.std.proofs.Common.{Bool, true, false, ◌≡◌, ◌≢◌, ℕ, zero, suc, ◌+◌, ◌<◌, ◌≤◌, List, [], ◌∷◌, ◌++◌, map, length, get_or, sym, refl, ap, ◌∙◌, subst, arith, Option, Some, None}
+use Rattle.std.proofs.Common.{Bool, true, false, ◌≡◌, ℕ, ◌+◌, ◌<◌, List, [], ◌∷◌, map, length, get_or, sym, refl, ap, ◌∙◌, subst, arith, Option, Some, None}
 use Rattle.std.specs.Prelude.{◌==◌, ◌||◌}
 use mathlib.Core.Logic.{dite}
-use mathlib.Core.Option.{none, some, some-injective}
+use mathlib.Core.Option.{some, some-injective}
 use native.Mathlib.Decide.{ℕ_discrete}
 use lib.ListN.{get_elem?}
 use Rattle.std.proofs.lemmas.Bool.{eqb-true}
@@ -13,8 +13,7 @@ use Rattle.svsm_steps.specs.declared.place_state.PlaceState.{Ghosts}
 use Rattle.svsm_steps.specs.Formed.{AreWellFormed}
 use Rattle.svsm_steps.specs.Histories.{HaveTheirPlaces}
 use Rattle.svsm_steps.specs.Lawful.{IsLawful, IsReplayOf, AreBelow}
-use Rattle.svsm_steps.specs.Made.{made_of, made_by}
-use Rattle.svsm_steps.specs.Partition.{of_core}
+use Rattle.svsm_steps.specs.Made.{made_of}
 use Rattle.svsm_steps.specs.Places.{PlaceValue, of_place}
 use Rattle.range_locks.specs.declared.view.Joined.{Joined}
 use Rattle.range_locks.specs.declared.view.Hand.TheVariants.{Held}
@@ -23,7 +22,7 @@ use Rattle.range_locks.specs.declared.view.View.TheVariants.{First, Core}
 use Rattle.range_locks.specs.Views.{made_in}
 use Rattle.range_locks.specs.Passes.{is_joined}
 use Rattle.range_locks.specs.Rule.{IsAtHome, AreJoined, IsLocked}
-use Rattle.range_locks.specs.Closed.{AreMadeBy, IsReturned, IsClosed}
+use Rattle.range_locks.specs.Closed.{AreMadeBy, IsClosed}
 use Rattle.range_locks.proofs.Keeps.{in_range, knows}
 
 -- a lawful place with nothing pending is the replay of its log, from what it was given with

@@ -1,14 +1,14 @@
 -- Each step keeps the rule of the table.
 use Rattle.std.specs.Prelude.{◌==◌}
-use Rattle.std.proofs.Common.{Bool, ◌≡◌, ◌≢◌, ℕ, zero, suc, ◌+◌, ◌-◌, ◌*◌, ◌%◌, ◌^◌, ◌<◌, ◌≤◌, eqb, List, [], ◌∷◌, ◌++◌, map, length, get_or, set, sym, refl, ap, ◌∙◌, subst, ⊎_elim, inl, inr, arith, Option, Some, None, length-set, length-append, get_or-set_other, get_or-set_same, eq-eqb, ne_eqb}
+use Rattle.std.proofs.Common.{Bool, ◌≡◌, ◌≢◌, ℕ, zero, suc, ◌+◌, ◌*◌, ◌%◌, ◌^◌, ◌<◌, ◌≤◌, eqb, List, [], ◌∷◌, ◌++◌, map, length, get_or, set, sym, refl, ap, ◌∙◌, subst, ⊎_elim, arith, Option, Some, None, length-set, length-append, get_or-set_other, get_or-set_same, eq-eqb, ne_eqb}
 use mathlib.Core.Logic.{dite}
 use mathlib.Core.Option.{none, some, some-ne-none, some-injective}
 use mathlib.Core.Option as maybe
 use native.Mathlib.Decide.{ℕ_discrete}
 use lib.ListN.{get_elem?, length-map}
 use prog.Atomic.{either}
-use Rattle.atomic_table.specs.Table.{State, Me, step, Act, keeps, takes, gives, stepped, homes_after, carried_after, Allows, Splits, Joins, opening}
-use Rattle.atomic_table.proofs.Lists.{at_set, set_here, set_else, set_again, at_snoc, at_longer, at_last}
+use Rattle.atomic_table.specs.Table.{State, Me, step, keeps, takes, gives, stepped, carried_after, Allows, opening}
+use Rattle.atomic_table.proofs.Lists.{at_set, set_here, set_else, set_again}
 use Rattle.svsm_steps.specs.declared.entry.Entry.{Entry}
 use Rattle.svsm_steps.specs.Place.{place_of}
 use Rattle.svsm_steps.specs.declared.place_state.Pending.{Pending}
@@ -22,7 +22,7 @@ use Rattle.range_locks.specs.declared.view.View.{View}
 use Rattle.range_locks.specs.declared.view.View.TheVariants.{Spent, First, Core}
 use Rattle.svsm_steps.specs.Partition.{of_core}
 use Rattle.svsm_steps.specs.Places.{of_place}
-use Rattle.range_locks.specs.Rule.{IsHistory, IsAtHome, Holds, AreJoined, Knows, IsLock, IsLocked}
+use Rattle.range_locks.specs.Rule.{IsAtHome, Holds, AreJoined, Knows, IsLock, IsLocked}
 use Rattle.range_locks.specs.Passes.{IsFresh}
 use Rattle.range_locks.specs.Plays.{ticketed, Took, Drew, Freed}
 use Rattle.range_locks.proofs.Filters.{core_in, core_out, place_in, place_out, bounded}

@@ -4,3 +4,4 @@ pub mod Keeps
 pub mod Views
 pub mod Splits
 pub mod Closing
+pub mod Tally

@@ -1,22 +1,19 @@
 -- Splitting off and joining a pass keep the rule of the table.
-use Rattle.std.proofs.Common.{Bool, ◌≡◌, ◌≢◌, ℕ, zero, suc, ◌+◌, ◌<◌, ◌≤◌, List, [], ◌∷◌, ◌++◌, map, length, get_or, set, sym, refl, ap, ◌∙◌, subst, ⊎_elim, ◌⊎◌, inl, inr, arith, Option, Some, None, length-set}
+use Rattle.std.proofs.Common.{◌≡◌, ◌≢◌, ℕ, zero, suc, ◌+◌, ◌<◌, ◌≤◌, List, [], ◌∷◌, ◌++◌, length, set, sym, refl, ap, ◌∙◌, subst, ⊎_elim, ◌⊎◌, inl, inr, arith, Option, length-set}
 use mathlib.Core.Logic.{dite}
-use mathlib.Core.Option.{none, some, some-ne-none, some-injective}
+use mathlib.Core.Option.{some, some-ne-none, some-injective}
 use native.Mathlib.Decide.{ℕ_discrete}
 use lib.ListN.{get_elem?}
 use Rattle.atomic_table.specs.Table.{State, Splits, Joins}
-use Rattle.atomic_table.proofs.Lists.{at_set, set_here, set_else, at_longer}
+use Rattle.atomic_table.proofs.Lists.{set_else, at_longer}
 use Rattle.svsm_steps.specs.declared.entry.Entry.{Entry}
-use Rattle.svsm_steps.specs.declared.place_state.Pending.{Pending}
 use Rattle.svsm_steps.specs.declared.place_state.PlaceState.{Ghosts}
 use Rattle.range_locks.specs.declared.view.Joined.{Joined}
 use Rattle.range_locks.specs.declared.view.Hand.{Hand}
 use Rattle.range_locks.specs.declared.view.Hand.TheVariants.{Free, Held}
 use Rattle.range_locks.specs.declared.view.View.{View}
 use Rattle.range_locks.specs.declared.view.View.TheVariants.{Spent, First, Core}
-use Rattle.svsm_steps.specs.Partition.{of_core}
-use Rattle.svsm_steps.specs.Places.{of_place}
-use Rattle.range_locks.specs.Rule.{IsHistory, IsAtHome, Holds, AreJoined, Knows, IsLock, IsLocked}
+use Rattle.range_locks.specs.Rule.{Holds, AreJoined, Knows, IsLocked}
 use Rattle.range_locks.specs.Plays.{one_more, newcomer, taken_in}
 use Rattle.range_locks.proofs.Keeps.{put, put_here, put_else, in_range, seats_stay, lock_stays, knows}
 

@@ -15,9 +15,11 @@ abbrev pub AreMadeBy : List Entry → List (ℕ × List Made) → Type 0
 AreMadeBy history [] = ⊤
 AreMadeBy history (run ∷ runs) = (run.1 ≡ made_by run.0 history) × AreMadeBy history runs
 
--- A place that comes back, beside the one that was given there: its number and constants are as they were, its log is what the
--- history has of it, and its state is the replay of that log from the opening state of the place that was given
-pub record IsReturned {P : Type 0} (members : Ghosts P) (regions : ℕ) (history : List Entry) (number : ℕ) (given place : P) : Type 0 where
+-- A place that comes back, beside the one that was given there: its number and constants are as they were, its log is what
+-- the history has of it, and its state is the replay of that log from the opening state of the place that was given
+pub record IsReturned
+    {P : Type 0} (members : Ghosts P) (regions : ℕ) (history : List Entry) (number : ℕ) (given place : P)
+    : Type 0 where
   pub number_is : members.number place ≡ number
   pub regions_is : members.regions place ≡ regions
   pub apics_is : members.apics place ≡ members.apics given
@@ -26,10 +28,12 @@ pub record IsReturned {P : Type 0} (members : Ghosts P) (regions : ℕ) (history
   pub log_is : members.log place ≡ of_place number history
   pub state_is : IsReplayOf (members.apics given) (members.opening given) (members.log place) (members.state place)
 
--- All passes of a table were joined, and its places are back. There is one history, in the order of its tickets, of well-formed
--- steps, each at its place. Each log is what it has of the place, each joined pass made what it has of the core, and no other
--- core has entries
-pub record IsClosed {P : Type 0} (members : Ghosts P) (regions : ℕ) (given : List P) (count : ℕ) (joined : List (ℕ × List Made)) (places : List P) : Type 0 where
+-- All passes of a table were joined, and its places are back. There is one history, in the order of its tickets, of
+-- well-formed steps, each at its place. Each log is what it has of the place, each joined pass made what it has of the core,
+-- and no other core has entries
+pub record IsClosed
+    {P : Type 0} (members : Ghosts P) (regions : ℕ) (given : List P) (count : ℕ) (joined : List (ℕ × List Made)) (places : List P)
+    : Type 0 where
   pub history : List Entry
   pub tickets : HaveTicketsFrom 0 history
   pub at_places : HaveTheirPlaces regions history

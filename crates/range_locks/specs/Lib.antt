@@ -3,3 +3,5 @@ pub mod Rule
 pub mod Plays
 pub mod Passes
 pub mod Closed
+pub mod Tally
+pub mod Testing

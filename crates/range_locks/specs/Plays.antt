@@ -5,7 +5,6 @@ use Rattle.svsm_steps.specs.declared.entry.Entry.{Entry}
 use Rattle.svsm_steps.specs.declared.place_state.Pending.{Pending}
 use Rattle.svsm_steps.specs.declared.place_state.PlaceState.{Ghosts}
 use Rattle.svsm_steps.specs.Lawful.{IsAbove}
-use Rattle.range_locks.specs.declared.view.Joined.{Joined}
 use Rattle.range_locks.specs.declared.view.Hand.TheVariants.{Free, Held}
 use Rattle.range_locks.specs.declared.view.View.{View}
 use Rattle.range_locks.specs.declared.view.View.TheVariants.{First, Core}
@@ -36,7 +35,7 @@ module _ {P : Type 0} where
       × (members.pending place ≡ None))
       × (found ≢ 0 → new ≡ old)
 
-  -- the drawing of a ticket: the pending step of the place in the slot has it, and it is above those of the pass and of the log
+  -- the drawing of a ticket: the pending step of the place in the slot has it, and it is above those of the log and of the pass
   abbrev pub Drew : Ghosts P → Move P → SeatState P → ℕ → SeatState P → Type 0
   Drew members move old found new =
       (core number : ℕ) (entries log : List Entry) (place moved : P) (pending : Pending)
@@ -44,7 +43,11 @@ module _ {P : Type 0} where
       → old.1 ≡ (number, Some moved) ∷ []
       → members.pending moved ≡ Some pending
       → (new
-      ≡ (Core core (entries ++ ticketed found number pending ∷ []) (Held number place (log ++ ticketed found number pending ∷ [])), old.1))
+      ≡ (
+        Core core (entries ++ ticketed found number pending ∷ [])
+            (Held number place (log ++ ticketed found number pending ∷ [])),
+        old.1,
+      ))
       × IsAbove found log
       × IsAbove found entries
 
@@ -67,5 +70,6 @@ module _ {P : Type 0} where
 
   -- the first pass after it joined another
   abbrev pub taken_in : View P → View P → View P
-  taken_in (First split joined) (Core core entries hand) = First split (record { core = core; entries = entries } ∷ joined)
+  taken_in (First split joined) (Core core entries hand) =
+      First split (record { core = core; entries = entries } ∷ joined)
   taken_in view other = view

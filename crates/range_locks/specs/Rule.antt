@@ -1,5 +1,5 @@
--- The rule of the table. Word 0 is the ticket word, word p + 1 the lock of place p, and slot p has place p. There is one history: the log
--- of a place and the entries of a pass are what it has of them. This project's own.
+-- The rule of the table. Word 0 is the ticket word, word p + 1 the lock of place p, and slot p has place p. There is one history:
+-- the log of a place and the entries of a pass are what it has of them. This project's own.
 use Rattle.std.specs.Prelude.{◌≡◌, ◌≢◌, ℕ, ◌+◌, ◌^◌, ◌<◌, ◌≤◌, List, [], ◌∷◌, length, slice_index, Option, Some, None, ⊤}
 use mathlib.Core.Option.{some}
 use mathlib.Core.Option as maybe
@@ -59,7 +59,10 @@ module _ {P : Type 0} (members : Ghosts P) where
         (0 < seat) × (core < count) × (owner core ≡ seat) × (entries ≡ of_core core history) × Holds hand
 
   -- A lock that is free has its place at home, with its log. One that is taken has its place out with just one view
-  pub record IsLock (given : List P) (words : List ℕ) (homes : List (maybe.Option (Option P))) (views : List (View P)) (history : List Entry) (holder : ℕ → ℕ) (number : ℕ) : Type 0 where
+  pub record IsLock
+      (given : List P) (words : List ℕ) (homes : List (maybe.Option (Option P))) (views : List (View P))
+      (history : List Entry) (holder : ℕ → ℕ) (number : ℕ)
+      : Type 0 where
     pub free :
         slice_index words (number + 1) ≡ 0
         → (place : P)
@@ -73,7 +76,8 @@ module _ {P : Type 0} (members : Ghosts P) where
         × ((core : ℕ) × (entries : List Entry) × (place : P) × (log : List Entry)
         × (get_elem? views (holder number) ≡ some (Core core entries (Held number place log))))
 
-  -- The whole rule. The ticket word is the length of the history; owner gives the seat of each core, and holder the seat that holds each place
+  -- The whole rule. The ticket word is the length of the history. Owner gives the seat of each core, and holder the seat that
+  -- holds each place
   pub record IsLocked (given : List P) (s : State (Option P) (View P)) : Type 0 where
     pub regions : ℕ
     pub history : List Entry

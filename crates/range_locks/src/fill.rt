@@ -48,13 +48,15 @@ pub(crate) fn refill<P: PlaceState>(
     mut kept: Vec<P>,
 ) -> Vec<P>
     requires full { IsFull closed.slots }
-    requires places { (p : ℕ) → p < slots_len closed.slots → (x : P) × (get_elem? (slots_items closed.slots) p ≡ some (Some x)) }
+    requires places { (p : ℕ) → p < slots_len closed.slots
+        → (x : P) × (get_elem? (slots_items closed.slots) p ≡ some (Some x)) }
     requires emptied { kept.items ≡ [] }
     requires room { slots_len closed.slots ≤ vec_capacity kept }
     ensures long { length result.items ≡ slots_len closed.slots }
     ensures lawful { (p : ℕ) (x : P) → get_elem? result.items p ≡ some x
         → IsLawful (P.apics x) (P.opening x) (P.log x) (P.pending x) (P.state x) }
-    ensures same { (p : ℕ) (x : P) → get_elem? result.items p ≡ some x → get_elem? (slots_items closed.slots) p ≡ some (Some x) }
+    ensures same { (p : ℕ) (x : P) → get_elem? result.items p ≡ some x
+        → get_elem? (slots_items closed.slots) p ≡ some (Some x) }
 {
     let mut i = 0;
     while i < closed.slot_count() {

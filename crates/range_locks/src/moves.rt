@@ -28,7 +28,8 @@ fn lock<P: PlaceState, R: Wait>(rt: &R, shared: &SharedTable<P>, seat: &mut Lock
     requires idle { seat.old.me.1 ≡ [] }
     ensures table { (seat.new.table_id ≡ seat.old.table_id) × (seat.new.id ≡ seat.old.id) }
     ensures holds { (x : P)
-        × (seat.new.me ≡ (Core (core_in seat.old.me.0) (entries_in seat.old.me.0) (Held place x (P.log x)), (place, Some x) ∷ []))
+        × (seat.new.me
+        ≡ (Core (core_in seat.old.me.0) (entries_in seat.old.me.0) (Held place x (P.log x)), (place, Some x) ∷ []))
         × (P.number x ≡ place)
         × (P.regions x + 2 ≡ shared.now.table_id.slots)
         × (P.pending x ≡ None) }
@@ -73,7 +74,8 @@ fn release<P: PlaceState>(shared: &SharedTable<P>, seat: &mut LockSeat<P>, place
     requires place { place < shared.now.table_id.slots }
     requires few { shared.now.table_id.slots < 1024 }
     requires holds { (x : P)
-        × (seat.old.me ≡ (Core (core_in seat.old.me.0) (entries_in seat.old.me.0) (Held place x (P.log value)), (place, None) ∷ []))
+        × (seat.old.me
+        ≡ (Core (core_in seat.old.me.0) (entries_in seat.old.me.0) (Held place x (P.log value)), (place, None) ∷ []))
         × (P.number value ≡ P.number x)
         × (P.regions value ≡ P.regions x)
         × (P.apics value ≡ P.apics x)
@@ -86,7 +88,8 @@ fn release<P: PlaceState>(shared: &SharedTable<P>, seat: &mut LockSeat<P>, place
     shared.store::<GiveBack>(seat, place as usize + 1, 0);
 }
 
-// Draws the ticket of the pending step, with the place in its slot: a seat tells nothing of a value that it has moved out.
+// Draws the ticket of the pending step. The place lies in its slot meanwhile, since a seat tells nothing of a value that it
+// has moved out.
 fn draw<P: PlaceState>(
     shared: &SharedTable<P>,
     seat: &mut LockSeat<P>,
@@ -105,13 +108,18 @@ fn draw<P: PlaceState>(
     requires pending { P.pending value ≡ Some pending }
     requires core { pending.core ≡ core_in seat.old.me.0 }
     requires holds { (x : P) × (log : List Entry)
-        × (seat.old.me ≡ (Core (core_in seat.old.me.0) (entries_in seat.old.me.0) (Held place x log), (place, None) ∷ [])) }
+        × (seat.old.me
+        ≡ (Core (core_in seat.old.me.0) (entries_in seat.old.me.0) (Held place x log), (place, None) ∷ [])) }
     ensures table { (seat.new.table_id ≡ seat.old.table_id) × (seat.new.id ≡ seat.old.id) }
     ensures same { result.1 ≡ value }
     ensures drew { (x : P) (log : List Entry)
         → seat.old.me ≡ (Core (core_in seat.old.me.0) (entries_in seat.old.me.0) (Held place x log), (place, None) ∷ [])
         → (seat.new.me
-        ≡ (Core (core_in seat.old.me.0) (entries_in seat.old.me.0 ++ ticketed result.0 place pending ∷ []) (Held place x (log ++ ticketed result.0 place pending ∷ [])), (place, None) ∷ []))
+        ≡ (
+          Core (core_in seat.old.me.0) (entries_in seat.old.me.0 ++ ticketed result.0 place pending ∷ [])
+              (Held place x (log ++ ticketed result.0 place pending ∷ [])),
+          (place, None) ∷ [],
+        ))
         × IsAbove result.0 log
         × IsAbove result.0 (entries_in seat.old.me.0) }
 {
@@ -121,7 +129,8 @@ fn draw<P: PlaceState>(
     (ticket, value)
 }
 
-// Makes a step of a core, which has made so many before: it waits for the step's place, and draws the ticket while it holds it.
+// Makes a step of a core, which has made so many before. It waits for the step's place, and draws the ticket while it
+// holds it.
 pub(crate) fn make<P: PlaceState, R: Wait, G: Gate>(
     rt: &R,
     alloc: Global,
@@ -144,7 +153,12 @@ pub(crate) fn make<P: PlaceState, R: Wait, G: Gate>(
     requires step { IsWellFormed regions step.now }
     ensures table { (seat.new.table_id ≡ seat.old.table_id) × (seat.new.id ≡ seat.old.id) }
     ensures ok { IfOk result (λ told. seat.new.me
-        ≡ (Core core (entries_in seat.old.me.0 ++ ticketed told.0 (place_of regions step.now) (record { core = core; step = step.now; answer = told.1 }) ∷ []) Free, [])) }
+        ≡ (
+          Core core (entries_in seat.old.me.0
+              ++ ticketed told.0 (place_of regions step.now) (record { core = core; step = step.now; answer = told.1 }) ∷ [])
+              Free,
+          [],
+        )) }
     ensures later { IfOk result (λ told. IsAbove told.0 (entries_in seat.old.me.0)) }
     ensures answer { IfOk result (λ told. IsAnswer regions step.now told.1) }
     ensures err { OnErr result (seat.new.me ≡ seat.old.me) }
@@ -160,14 +174,14 @@ pub(crate) fn make<P: PlaceState, R: Wait, G: Gate>(
     let answer = value.act(core, step);
     let step = *step;
     let pending = Pending { core, step, answer };
-    let (ticket, mut value) = draw(shared, seat, place, value, regions, pending);
-    value.put(Entry {
+    let (ticket, mut acted) = draw(shared, seat, place, value, regions, pending);
+    acted.put(Entry {
         ticket,
         core,
         place,
         step,
         answer,
     });
-    release(shared, seat, place, value);
+    release(shared, seat, place, acted);
     Ok((ticket, answer))
 }

@@ -91,7 +91,8 @@ impl<P: PlaceState + Send> LockTable<P> {
         ensures core { core_of result ≡ count_of first.old }
         ensures none_made { own_of result ≡ [] }
     {
-        let seat = self.table.shared.split_seat::<SplitPass>(&mut first.seat);
+        let shared = &self.table.shared;
+        let seat = shared.split_seat::<SplitPass>(&mut first.seat);
         let core = first.made as u32;
         first.made += 1;
         Pass {
@@ -112,13 +113,13 @@ impl<P: PlaceState + Send> LockTable<P> {
         ensures count { count_of first.new ≡ count_of first.old }
         ensures joined { joined_of first.new ≡ (core_of other, own_of other) ∷ joined_of first.old }
     {
-        self.table
-            .shared
-            .join_seat::<JoinPass>(&mut first.seat, other.into_seat());
+        let shared = &self.table.shared;
+        let seat = other.into_seat();
+        shared.join_seat::<JoinPass>(&mut first.seat, seat);
     }
 
-    /// Makes a step of a split pass: its ticket and its answer. It waits for the step's place. At want of memory no ticket is drawn,
-    /// and the place is free again.
+    /// Makes a step of a split pass: its ticket and its answer. It waits for the step's place. At want of memory no ticket
+    /// is drawn, and the place is free again.
     pub fn do_step<R: Wait, G: Gate>(
         &self,
         rt: &R,
@@ -162,7 +163,8 @@ impl<P: PlaceState + Send> LockTable<P> {
         requires table { IsPassOf self first }
         requires first { is_first first ≡ true }
         requires all { (core : ℕ) → core < count_of first → is_joined core (joined_of first) ≡ true }
-        ensures closed { IsClosed P.PlaceState (regions_of self) (given_of self) (count_of first) (joined_of first) result.items }
+        ensures closed { IsClosed P.PlaceState (regions_of self) (given_of self) (count_of first) (joined_of first)
+            result.items }
     {
         let LockTable {
             table,

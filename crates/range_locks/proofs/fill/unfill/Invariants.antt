@@ -1,4 +1,4 @@
-use Rattle.std.proofs.Common.{◌≡◌, ℕ, ◌+◌, ◌≤◌, ◌++◌, List, map, length, Some}
+use Rattle.std.proofs.Common.{◌≡◌, ◌+◌, ◌≤◌, ◌++◌, List, map, length, Some}
 use Rattle.std.specs.Prelude.{vec_len, vec_capacity}
 use mathlib.Core.List.{reverse}
 use Rattle.range_locks.proofs.fill.unfill.Given as goal

@@ -1,10 +1,5 @@
-use Rattle.std.proofs.Common.{rules, arith, ◌≡◌, ℕ, ◌+◌, List, [], ◌∷◌, ◌++◌, Option, Some, None, ap, sym, refl, ◌∙◌}
-use Rattle.svsm_steps.specs.Place.{place_of}
-use Rattle.range_locks.specs.declared.view.Hand.TheVariants.{Free, Held}
+use Rattle.std.proofs.Common.{arith, ℕ, List, [], ◌∷◌, Option, None, ap, sym, ◌∙◌}
 use Rattle.range_locks.specs.declared.view.View.{View}
-use Rattle.range_locks.specs.declared.view.View.TheVariants.{Core}
-use Rattle.range_locks.specs.Plays.{ticketed}
-use Rattle.range_locks.specs.Views.{core_in, entries_in}
 use Rattle.range_locks.proofs.Keeps.{draw_allows, front}
 use Rattle.range_locks.proofs.moves.draw.Goals as goal
 

@@ -1,6 +1,5 @@
-use Rattle.std.proofs.Common.{rules, arith, ◌≡◌, ℕ, List, [], ◌∷◌, Option, Some, None, ap, sym, refl, ◌∙◌}
-use Rattle.range_locks.specs.declared.view.Hand.TheVariants.{Free, Held}
-use Rattle.range_locks.specs.declared.view.View.{View}
+use Rattle.std.proofs.Common.{arith, ℕ, List, ◌∷◌, Option, Some, ap, sym, refl, ◌∙◌}
+use Rattle.range_locks.specs.declared.view.Hand.TheVariants.{Held}
 use Rattle.range_locks.specs.declared.view.View.TheVariants.{Core}
 use Rattle.range_locks.specs.Views.{core_in, entries_in}
 use Rattle.range_locks.proofs.Views.{core_is}

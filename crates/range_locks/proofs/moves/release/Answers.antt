@@ -1,4 +1,4 @@
-use Rattle.std.proofs.Common.{rules, arith, ◌≡◌, ℕ, ◌+◌, List, [], ◌∷◌, Option, Some, None, ap, sym, refl, ◌∙◌}
+use Rattle.std.proofs.Common.{arith, ap, refl, ◌∙◌}
 use Rattle.range_locks.proofs.Keeps.{free_allows}
 use Rattle.range_locks.proofs.moves.release.Goals as goal
 

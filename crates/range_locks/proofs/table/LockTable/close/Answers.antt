@@ -1,4 +1,4 @@
-use Rattle.std.proofs.Common.{rules, arith, ◌≡◌, sym, ap, ◌∙◌, length}
+use Rattle.std.proofs.Common.{arith, ◌≡◌, sym, ap, ◌∙◌, length}
 use Rattle.std.specs.Slots.{slots_items, slots_len, slots_counts}
 use Rattle.range_locks.specs.Views.{count_in, runs_in}
 use Rattle.range_locks.proofs.Views.{first_is}

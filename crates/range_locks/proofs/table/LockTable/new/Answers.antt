@@ -1,8 +1,6 @@
 use Rattle.std.proofs.Common.{rules, arith, ◌≡◌, ℕ, ◌+◌, List, [], ◌∷◌, map, length, replicate, get_or, Option, Some, ap, sym, refl, subst, ◌∙◌}
 use Rattle.std.proofs.lemmas.Grind.{common_steps}
-use lib.ListN.{get_or-replicate, length-replicate}
-use Rattle.atomic_table.specs.Table.{opening}
-use Rattle.range_locks.specs.declared.view.View.TheVariants.{First}
+use lib.ListN.{length-replicate}
 use Rattle.range_locks.proofs.Keeps.{starts}
 use Rattle.range_locks.proofs.table.LockTable.new.Goals as goal
 
