@@ -1,4 +1,5 @@
-//! The platform of one region as two traits, `Rmp` for the module and `Scene` for the guest and the host, and its plain form.
+//! The platform of one region as two traits, `Rmp` for the module and `Scene` for the guest and the host, and its plain
+//! form.
 #![tactic(auto)]
 
 mod begin;

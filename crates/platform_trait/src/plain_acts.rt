@@ -24,17 +24,19 @@ fn index_of(page: Page) -> usize
 impl PlainRmp {
     // One more operation.
     fn count(&mut self)
-        ensures { plain_known self.new ≡ record (plain_known self.old) { told = Some (counted (record { made = self.old.made; faulting = [] })) } }
+        ensures { plain_known self.new ≡ record (plain_known self.old)
+            { told = Some (counted (record { made = self.old.made; faulting = [] })) } }
     {
         self.made = self.made.saturating_add(1);
     }
 
     // One more operation, which faults.
     fn fault(&mut self) -> Faulted
-        ensures known { plain_known self.new ≡ record (plain_known self.old) { told = Some (counted (record { made = self.old.made; faulting = [] })); faults = self.new.faults } }
+        ensures known { plain_known self.new ≡ record (plain_known self.old)
+            { told = Some (counted (record { made = self.old.made; faulting = [] })); faults = self.new.faults } }
         ensures rose { Rose self.old.faults self.new.faults }
     {
-        self.made = self.made.saturating_add(1);
+        self.count();
         self.faults = self.faults.saturating_add(1);
         Faulted
     }
@@ -47,7 +49,8 @@ impl PlainRmp {
 
     // The 2M entry is split, where the operation is in 4K.
     fn split(&mut self, size: Size)
-        ensures { plain_known self.new ≡ record (plain_known self.old) { hw = record (plain_hw self.old) { large = large_after size self.old.large } } }
+        ensures { plain_known self.new ≡ record (plain_known self.old)
+            { hw = record (plain_hw self.old) { large = large_after size self.old.large } } }
     {
         if matches!(size, Size::Small) {
             self.large = false;
@@ -74,7 +77,8 @@ impl PlainRmp {
     // What it does to the pages.
     #[tactic(auto, unfolding(svsm_types::specs::Hardware::validated_pages))]
     fn set_validity(&mut self, page: Page, size: Size, on: bool, code: HwCode)
-        ensures { plain_known self.new ≡ record (plain_known self.old) { hw = record (plain_hw self.old) { pages = validated_pages size page.0 on code self.old.pages.items } } }
+        ensures { plain_known self.new ≡ record (plain_known self.old)
+            { hw = record (plain_hw self.old) { pages = validated_pages size page.0 on code self.old.pages.items } } }
     {
         if matches!(code, HwCode::Changed) {
             validate(&mut self.pages, size, index_of(page), on);

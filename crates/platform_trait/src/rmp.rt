@@ -30,31 +30,36 @@ pub trait Rmp {
         requires { region_of page.0 ≡ (known self.old).region }
         ensures made { OnOk result ((known self.new).room page.0 ≡ true) }
         ensures kept { Rooms (known self.old) (known self.new) }
-        ensures only { (other : ℕ) → region_of other ≡ (known self.old).region → other ≢ page.0 → (known self.new).room other ≡ (known self.old).room other }
+        ensures only { (other : ℕ) → region_of other ≡ (known self.old).region → other ≢ page.0
+            → (known self.new).room other ≡ (known self.old).room other }
         ensures unmade { OnErr result ((known self.new).room ≡ (known self.old).room) };
 
     /// Reads the word at an address of the region, a multiple of 8 bytes. It faults where the page is not assigned and validated.
     fn read(&mut self, gpa: Gpa) -> Result<u64, Faulted>
         requires here { region_of (page_of gpa.0) ≡ (known self.old).region }
         requires aligned { gpa.0 % 8 ≡ 0 }
-        ensures { Operated result (word_faults gpa.0 (known self.old).hw) ((known self.old).hw.words gpa.0) (known self.old).hw (known self.old) (known self.new) };
+        ensures { Operated result (word_faults gpa.0 (known self.old).hw) ((known self.old).hw.words gpa.0)
+            (known self.old).hw (known self.old) (known self.new) };
 
     /// Writes a word, where there is room for its page. It takes no memory, and faults where a read does.
     fn write(&mut self, gpa: Gpa, word: u64) -> Result<(), Faulted>
         requires here { region_of (page_of gpa.0) ≡ (known self.old).region }
         requires aligned { gpa.0 % 8 ≡ 0 }
         requires room { (known self.old).room (page_of gpa.0) ≡ true }
-        ensures { Operated result (word_faults gpa.0 (known self.old).hw) tt (after_write gpa.0 word (known self.old).hw) (known self.old) (known self.new) };
+        ensures { Operated result (word_faults gpa.0 (known self.old).hw) tt
+            (after_write gpa.0 word (known self.old).hw) (known self.old) (known self.new) };
 
     /// Makes all words of a page, or of the region, 0. It faults where a page of these is not assigned and validated.
     fn clear(&mut self, page: Page, size: Size) -> Result<(), Faulted>
         requires { region_of page.0 ≡ (known self.old).region }
-        ensures { Operated result (clear_faults size page.0 (known self.old).hw) tt (after_clear size page.0 (known self.old).hw) (known self.old) (known self.new) };
+        ensures { Operated result (clear_faults size page.0 (known self.old).hw) tt
+            (after_clear size page.0 (known self.old).hw) (known self.old) (known self.new) };
 
     /// PVALIDATE: validates a page or the region, or takes that back. By the platform's table it never faults.
     fn pvalidate(&mut self, page: Page, size: Size, on: bool) -> Result<HwCode, Faulted>
         requires { region_of page.0 ≡ (known self.old).region }
-        ensures { Operated result false (pvalidate_answer size page.0 on (known self.old).hw) (after_pvalidate size page.0 on (known self.old).hw) (known self.old) (known self.new) };
+        ensures { Operated result false (pvalidate_answer size page.0 on (known self.old).hw)
+            (after_pvalidate size page.0 on (known self.old).hw) (known self.old) (known self.new) };
 
     /// RMPADJUST: sets the right of a VMPL and the VMSA bit. It faults where a page is not assigned and validated, and in 2M where the
     /// region is held as 4K entries.
@@ -69,5 +74,6 @@ pub trait Rmp {
         requires here { region_of page.0 ≡ (known self.old).region }
         requires vmpl { (1 ≤ vmpl.0) × (vmpl.0 ≤ 3) }
         requires perms { perms.0 ≤ 15 }
-        ensures { Operated result (rmpadjust_faults size page.0 (known self.old).hw) tt (after_rmpadjust size page.0 vmpl.0 perms.0 vmsa (known self.old).hw) (known self.old) (known self.new) };
+        ensures { Operated result (rmpadjust_faults size page.0 (known self.old).hw) tt
+            (after_rmpadjust size page.0 vmpl.0 perms.0 vmsa (known self.old).hw) (known self.old) (known self.new) };
 }
