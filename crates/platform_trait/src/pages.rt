@@ -1,5 +1,5 @@
 //! The states of pages, one and all.
-ghost use Rattle.std.specs.Prelude.{◌≡◌, ◌≤◌, ◌<◌, length, map, slice_index_or};
+ghost use Rattle.std.specs.Prelude.{◌≡◌, ◌≤◌, ◌<◌, length, map};
 ghost use Rattle.std.specs.List.{list_all};
 ghost use Rattle.svsm_types.specs.Pages.{covered, changed_at};
 ghost use Rattle.svsm_types.specs.Hardware.{blank, is_usable, right_of, reaches, has_bit, same_truth, with_validity, with_vmsa, with_right, fresh_page};

@@ -1,7 +1,7 @@
 //! The operations of the plain form.
-ghost use Rattle.std.specs.Prelude.{◌≡◌, ◌≤◌, ◌+◌, ◌-◌, ◌^◌, Some, [], min};
-ghost use Rattle.svsm_types.specs.Pages.{page_of, region_of, index_of};
-ghost use Rattle.svsm_types.specs.Hardware.{page_holding, all_usable, fits as fits_in, large_after, guest_may, guest_may_adjust, pvalidate_answer, validated_pages};
+ghost use Rattle.std.specs.Prelude.{◌≡◌, ◌≤◌, Some, []};
+ghost use Rattle.svsm_types.specs.Pages.{page_of, index_of};
+ghost use Rattle.svsm_types.specs.Hardware.{page_holding, fits as fits_in, large_after, guest_may, guest_may_adjust, pvalidate_answer, validated_pages};
 ghost use Rattle.svsm_types.specs.Numbers.{counted};
 ghost use Rattle.platform_trait.specs.Known.{Rose};
 ghost use Rattle.platform_trait.specs.PlainKnown.{plain_known, plain_hw};

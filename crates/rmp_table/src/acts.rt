@@ -70,7 +70,8 @@ impl PackedRmp {
     // What it does to the pages. A 2M entry is split by an operation in 4K, whatever the answer.
     fn set_validity(&mut self, page: Page, size: Size, on: bool, code: HwCode)
         requires { code ≡ pvalidate_answer size page.0 on (packed_hw self.old) }
-        ensures { packed_known self.new ≡ record (packed_known self.old) { hw = after_pvalidate size page.0 on (packed_hw self.old) } }
+        ensures { packed_known self.new ≡ record (packed_known self.old)
+            { hw = after_pvalidate size page.0 on (packed_hw self.old) } }
     {
         if changes(code) {
             let index = index_of(page);
@@ -86,7 +87,8 @@ impl PackedRmp {
         requires fits { fits size (packed_hw self.old).large ≡ true }
         requires vmpl { (1 ≤ vmpl.0) × (vmpl.0 ≤ 3) }
         requires right { right.0 ≤ 15 }
-        ensures { packed_known self.new ≡ record (packed_known self.old) { hw = after_rmpadjust size page.0 vmpl.0 right.0 vmsa (packed_hw self.old) } }
+        ensures { packed_known self.new ≡ record (packed_known self.old)
+            { hw = after_rmpadjust size page.0 vmpl.0 right.0 vmsa (packed_hw self.old) } }
     {
         let index = index_of(page);
         let state = self.at(index);

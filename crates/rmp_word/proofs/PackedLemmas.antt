@@ -1,12 +1,12 @@
 -- What is packed is unpacked.
-use Rattle.std.proofs.Common.{◌≡◌, ℕ, zero, suc, ◌+◌, ◌*◌, ◌/◌, ◌%◌, ◌≤◌, ◌<◌, ◌^◌, Bool, true, false, List, [], ◌∷◌, length, refl, sym, ap, ◌∙◌, arith}
-use Rattle.std.specs.Prelude.{◌==◌, ◌&&◌, nat_lt, bit_and, if◌then◌else◌, Option, None, Some}
+use Rattle.std.proofs.Common.{◌≡◌, ℕ, zero, suc, ◌+◌, ◌*◌, ◌/◌, ◌%◌, ◌≤◌, ◌<◌, Bool, true, false, List, [], ◌∷◌, refl, ap, ◌∙◌, arith}
+use Rattle.std.specs.Prelude.{◌==◌, ◌&&◌, nat_lt, bit_and, if◌then◌else◌, Option, Some}
 use Rattle.std.proofs.lemmas.Bool.{eq-eqb, lt-ltb}
 use Rattle.std.proofs.lemmas.Nat.Bits.{and_pow}
 use Rattle.svsm_types.specs.Hardware.{has_bit}
 use Rattle.svsm_types.specs.declared.platform.Perms.{Perms}
 use Rattle.svsm_types.specs.declared.platform.PageState.{PageState}
-use Rattle.rmp_word.specs.Packed.{as_bit, right_at, packed, right_in, state_of, is_in_layout, unpacked, HasRights}
+use Rattle.rmp_word.specs.Packed.{as_bit, right_at, packed, state_of, is_in_layout, unpacked, HasRights}
 
 number_low : (b : Bool) → as_bit b ≤ 1
 number_low true = omega arith

@@ -1,6 +1,6 @@
 -- The packed word of a page, this project's own layout after the RMP entry of the AMD64 manual, volume 3: bit 0 assigned, bit 1 validated, bit 2 VMSA,
 -- bits 7:4, 11:8 and 15:12 the rights of VMPL 1, 2 and 3. Bit 3 and bits 63:16 are outside the layout.
-use Rattle.std.specs.Prelude.{◌≡◌, ℕ, ◌+◌, ◌*◌, ◌/◌, ◌%◌, ◌≤◌, Bool, true, false, ◌&&◌, ◌==◌, nat_lt, if◌then◌else◌, Option, None, Some, List, [], ◌∷◌, slice_index_or, length}
+use Rattle.std.specs.Prelude.{◌≡◌, ℕ, ◌+◌, ◌*◌, ◌/◌, ◌%◌, ◌≤◌, Bool, true, false, ◌&&◌, ◌==◌, nat_lt, if◌then◌else◌, Option, None, Some, [], ◌∷◌, slice_index_or, length}
 use Rattle.svsm_types.specs.Hardware.{no_right, has_bit}
 use Rattle.svsm_types.specs.declared.platform.Perms.{Perms}
 use Rattle.svsm_types.specs.declared.platform.PageState.{PageState}

@@ -20,10 +20,22 @@ fn each_field_has_its_bits(rt: HostRuntime) {
         (0x1, page(true, false, false, NO_RIGHTS)),
         (0x2, page(false, true, false, NO_RIGHTS)),
         (0x4, page(false, false, true, NO_RIGHTS)),
-        (0xF0, page(false, false, false, [Perms(15), Perms(0), Perms(0)])),
-        (0xB00, page(false, false, false, [Perms(0), Perms(11), Perms(0)])),
-        (0x8000, page(false, false, false, [Perms(0), Perms(0), Perms(8)])),
-        (0x1247, page(true, true, true, [Perms(4), Perms(2), Perms(1)])),
+        (
+            0xF0,
+            page(false, false, false, [Perms(15), Perms(0), Perms(0)]),
+        ),
+        (
+            0xB00,
+            page(false, false, false, [Perms(0), Perms(11), Perms(0)]),
+        ),
+        (
+            0x8000,
+            page(false, false, false, [Perms(0), Perms(0), Perms(8)]),
+        ),
+        (
+            0x1247,
+            page(true, true, true, [Perms(4), Perms(2), Perms(1)]),
+        ),
     ] {
         assert_eq!(rt; RmpWord(bits).unpack(), Some(state), "{bits}");
         assert_eq!(rt; RmpWord(bits).state(), state, "{bits}");

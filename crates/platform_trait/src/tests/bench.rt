@@ -1,5 +1,5 @@
 //! Calls of a platform of the region 1, by the index of a page and of a word.
-ghost use Rattle.std.specs.Prelude.{◌≡◌, ◌%◌, ◌≤◌, IfOk, length};
+ghost use Rattle.std.specs.Prelude.{◌≡◌, ◌%◌, ◌≤◌};
 ghost use Rattle.svsm_types.specs.Pages.{page_of, region_of};
 
 use crate::{Rmp, Scene};
