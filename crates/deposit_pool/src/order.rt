@@ -7,7 +7,7 @@ use std::marker::Model;
 use svsm_types::{NoMemory, Size};
 
 /// So many 4K blocks, and after them so many 2M blocks.
-#[derive(Clone, Copy, Debug, PartialEq, Eq)]
+#[derive(Clone, Copy)]
 pub struct Run {
     pub small: usize,
     pub large: usize,
@@ -28,7 +28,10 @@ impl Model for Order {
 
     ghost Value = { OrderValue };
 
-    ghost view = { λ o. record { sizes = sizes_in o.below.items ++ sizes_of o.last; room = vec_capacity o.below - vec_len o.below } };
+    ghost view = { λ o. record {
+      sizes = sizes_in o.below.items ++ sizes_of o.last;
+      room = vec_capacity o.below - vec_len o.below;
+    } };
 
     ghost invariant = { λ o. IsCompact o.below.items o.last };
 }

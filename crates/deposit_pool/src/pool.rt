@@ -34,7 +34,9 @@ impl Model for Pool {
 
     ghost view = { λ p. record { blocks = blocks_in p.order.sizes p.small.items p.large.items; spare = p.spare } };
 
-    ghost invariant = { λ p. (count_of Small p.order.sizes ≡ length p.small.items) × (count_of Large p.order.sizes ≡ length p.large.items) × (p.spare ≡ true → HasSpare p.small p.large p.order) };
+    ghost invariant = { λ p. (count_of Small p.order.sizes ≡ length p.small.items)
+        × (count_of Large p.order.sizes ≡ length p.large.items)
+        × (p.spare ≡ true → HasSpare p.small p.large p.order) };
 }
 
 // The page that was pushed last goes, and so does the last of its size.
@@ -93,7 +95,8 @@ impl Pool {
 
     /// Takes the block of a size that was pushed last. None where there is none of this size.
     pub fn pop(&mut self, size: Size) -> Option<Page>
-        ensures page { MatchOption result (last_block size self.old.blocks ≡ None) (λ page. last_block size self.old.blocks ≡ Some (record { page = page; size = size })) }
+        ensures page { MatchOption result (last_block size self.old.blocks ≡ None)
+            (λ page. last_block size self.old.blocks ≡ Some (record { page = page; size = size })) }
         ensures answer { popped_answer result (length self.new.blocks) ≡ pool_answer self.old.blocks (PoolPop size) }
         ensures after { self.new ≡ record self.old { blocks = pool_after self.old.blocks (PoolPop size) } }
     {

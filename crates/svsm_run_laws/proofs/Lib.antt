@@ -41,3 +41,4 @@ pub mod WorkedCalls
 pub mod TwoWaves
 pub mod SoundExamples
 pub mod StepFacts
+pub mod FalseLaws

@@ -10,3 +10,4 @@ pub mod TwoCalls
 pub mod WorkedCalls
 pub mod TwoWaves
 pub mod StepFacts
+pub mod FalseLaws

@@ -11,6 +11,7 @@ ghost use Rattle.svsm_calls.specs.Apart.{IsApart};
 ghost use Rattle.svsm_calls.specs.Resumed.{CallsAreInOrder, ListCallsAreMade, LoadsGoOn, OnceInRuns};
 ghost use Rattle.svsm_calls.specs.Run.{IsRun};
 ghost use Rattle.svsm_run_laws.specs.Entering.{EntersApart, ReadyIsSeen};
+ghost use Rattle.svsm_run_laws.specs.FalseLaws.{OnceWhateverOthersWrite, ReservedRowsCount, WhateverTheRegistry};
 ghost use Rattle.svsm_run_laws.specs.Formed.{RunsAreFormed, RunsAreSafe, RunsStayConsistent};
 ghost use Rattle.svsm_run_laws.specs.Kept.{EveryPartKeeps, EveryRunKeeps, NoAnswerIsOdd, RowsStayApart, RunsKeepPartition};
 ghost use Rattle.svsm_run_laws.specs.Balances.{BootedIsAccounted, CallsKeepHands, EachRowBalances};
@@ -139,4 +140,11 @@ pub fn worked_steps()
     ensures regions { RegionFacts }
     ensures blocks { BlockFacts }
     ensures boot { BootFacts }
+{}
+
+/// What the conditions of three laws are for: without it each is refuted by a small run.
+pub fn false_variants()
+    ensures reserved { ¬ ReservedRowsCount }
+    ensures writers { ¬ OnceWhateverOthersWrite }
+    ensures registry { ¬ WhateverTheRegistry }
 {}

@@ -66,7 +66,11 @@ impl Registry {
         requires step { kind step.now ≡ registry }
         requires spare { HasSpareFor step.now self.old.spare }
         ensures answer { result ≡ rows_answer self.old.apics self.old.rows step.now }
-        ensures after { self.new ≡ record { apics = self.old.apics; rows = rows_after self.old.apics self.old.rows step.now; spare = spare_after step.now self.old.spare } }
+        ensures after { self.new ≡ record {
+          apics = self.old.apics;
+          rows = rows_after self.old.apics self.old.rows step.now;
+          spare = spare_after step.now self.old.spare;
+        } }
     {
         let answer = match refusal(&self.apics, &self.rows, step) {
             Some(answer) => answer,

@@ -1,0 +1,11 @@
+//! Histories: logs merged by ticket, and the entries of one core or place.
+#![tactic(auto)]
+
+mod merging;
+mod select;
+
+pub use merging::merge;
+pub use select::{of_core, of_place};
+
+#[cfg(test)]
+mod tests;
