@@ -1,10 +1,10 @@
 -- The answers of a place are well formed, and its blocks and rows stay in the map.
-use Rattle.std.proofs.Common.{◌≡◌, ℕ, List, [], refl, sym, ap, ◌∙◌, subst}
+use Rattle.std.proofs.Common.{◌≡◌, ℕ, List, [], sym, subst}
 use Rattle.svsm_steps.specs.declared.step.Step.{Step}
 use Rattle.svsm_steps.specs.declared.answer.Answer.{Answer}
 use Rattle.svsm_steps.specs.declared.entry.Entry.{Entry}
-use Rattle.svsm_steps.specs.State.{State, Constants, RegionState}
-use Rattle.svsm_steps.specs.Machine.{Kind as StepKind, region, pool, registry, kind, MayGive, next_by, next}
+use Rattle.svsm_steps.specs.State.{State, Constants}
+use Rattle.svsm_steps.specs.Machine.{Kind as StepKind, region, pool, registry, kind, MayGive, next_by}
 use Rattle.svsm_steps.specs.Mapped.{IsMapped}
 use Rattle.svsm_steps.specs.Image.{no_region}
 use Rattle.svsm_steps.specs.Formed.{IsWellFormed, IsAnswer}

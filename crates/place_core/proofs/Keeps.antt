@@ -1,8 +1,6 @@
 -- What keeps the law of a place, and its operation numbers.
 use Rattle.std.proofs.Common.{◌≡◌, ℕ, List, [], ◌∷◌, ◌++◌, Option, Some, None, refl, sym, ap, ◌∙◌, subst}
 use Rattle.svsm_types.specs.Numbers.{Numbers}
-use Rattle.svsm_steps.specs.declared.step.Step.{Step}
-use Rattle.svsm_steps.specs.declared.answer.Answer.{Answer}
 use Rattle.svsm_steps.specs.declared.entry.Entry.{Entry}
 use Rattle.svsm_steps.specs.declared.place_state.Pending.{Pending}
 use Rattle.svsm_steps.specs.Region.{fault_at}

@@ -1,15 +1,12 @@
 -- Steps among so many regions.
-use Rattle.std.proofs.Common.{◌≡◌, ℕ, ◌+◌, ◌*◌, ◌%◌, ◌<◌, ◌≤◌, true, arith, refl, ap, ◌∙◌, sym, subst}
+use Rattle.std.proofs.Common.{◌≡◌, ℕ, ◌+◌, ◌<◌, ◌≤◌, arith, refl, subst}
 use Rattle.svsm_types.specs.Pages.{region_of, page_of}
 use Rattle.svsm_types.specs.declared.platform.Size.{Size}
 use Rattle.svsm_types.specs.declared.platform.Size.TheVariants.{Small, Large}
-use Rattle.svsm_types.specs.declared.platform.Vmpl.{Vmpl}
 use Rattle.svsm_steps.specs.Place.{place_of}
-use Rattle.svsm_steps.specs.State.{State, Constants, RegionState}
-use Rattle.svsm_steps.specs.Formed.{IsWellFormed, IsPage, IsSizedPage, IsWord, IsAnswer}
+use Rattle.svsm_steps.specs.Formed.{IsWellFormed, IsPage, IsSizedPage}
 use Rattle.svsm_steps.specs.declared.step.Step.{Step}
 use Rattle.svsm_steps.specs.declared.step.Step.TheVariants.{GuestWrite, GuestPend, GuestRead, GuestAdjust, HostShare, HostAssign, TakePending, LoadWord, StoreNext, StoreEntry, SetAvail, ClearCaa, Validate, Deposit, Release, VmsaTake, VmsaDrop, PoolPush, PoolPop, Reserve, Commit, Cancel, Retire, Remap, Enter, Leave}
-use Rattle.svsm_steps.specs.declared.answer.Answer.{Answer}
 use Rattle.svsm_steps.specs.Machine.{Kind as StepKind, region, pool, registry, kind}
 use Rattle.svsm_steps.specs.Lawful.{IsAskedOf}
 use Rattle.svsm_laws.proofs.Places.{IsOf, place_of_kind}

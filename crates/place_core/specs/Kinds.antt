@@ -1,5 +1,5 @@
 -- What each kind of place is, as the machine has it.
-use Rattle.std.specs.Prelude.{◌≡◌, ℕ, ◌+◌, ◌<◌, Bool, true, false, Option, None, Some, unwrap_or, List, [], map, ⊤}
+use Rattle.std.specs.Prelude.{◌≡◌, ℕ, ◌+◌, ◌<◌, Bool, true, false, unwrap_or, List, [], map, ⊤}
 use Rattle.svsm_types.specs.Numbers.{Numbers}
 use Rattle.svsm_types.specs.declared.image.CoreLine.{CoreLine}
 use Rattle.svsm_steps.specs.declared.step.Step.{Step}

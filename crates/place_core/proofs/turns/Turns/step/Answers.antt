@@ -1,6 +1,5 @@
 use Rattle.std.proofs.Common.{◌≡◌, ◌<◌, ◌++◌, ◌∷◌, [], ◌∙◌, ap, sym, subst, length, set, refl, List, arith, rules}
 use Rattle.svsm_steps.specs.declared.entry.Entry.{Entry}
-use Rattle.svsm_steps.specs.Place.{place_of}
 use Rattle.svsm_steps.specs.Formed.{IsWellFormed}
 use Rattle.place_core.specs.PlaceView.{PlaceView}
 use Rattle.place_core.specs.Turned.{TurnsView, turn_of, apics_of, openings_of}
