@@ -1,0 +1,10 @@
+pub mod FormedLemmas
+pub mod Keeps
+pub mod KeptLemmas
+pub mod ListLemmas
+pub mod OpenLemmas
+pub mod PoolLemmas
+pub mod Sent
+pub mod SoundLemmas
+pub mod StepLemmas
+pub mod TurnLemmas

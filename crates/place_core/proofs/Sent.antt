@@ -1,0 +1,28 @@
+-- A place may go to another thread, and may be shared. Its snapshots own nothing.
+use denote.RattleType.{RattleType}
+use denote.Param.Send.{IsSend, IsSync, part_keyless, struct_send, struct_sync, view_send, view_sync, recorded_send, recorded_sync, sendable}
+use denote.Struct.Declared.{shape}
+use Rattle.std.specs.contracts.snapshot.Snapshot.{the_row as snapshot_row}
+use Rattle.svsm_types.specs.contracts.sequence.Sequence.{the_row as sequence_row}
+use Rattle.svsm_types.specs.contracts.image.CoreLine.{the_row as core_row}
+use Rattle.place_core.specs.contracts.kind.Kind.{the_row as kind_row}
+use Rattle.place_core.proofs.place.Kept.TheSendSync as kept
+use Rattle.place_core.specs.contracts.place.Place.{the_row}
+use Rattle.place_core.specs.contracts.place.Place.TheInside as inside
+
+snapshot_send : (row : RattleType) → IsSend (snapshot_row row)
+snapshot_send row = record { owned = λ d vs. ((λ vss. (tt, ((λ uss. (tt, tt)), tt))), tt); leaving = λ k f vs. tt }
+
+snapshot_sync : (row : RattleType) → IsSync (snapshot_row row)
+snapshot_sync row = record { shared = λ d b o κ q. part_keyless (snapshot_row row) (snapshot_send row) q d b o }
+
+pub place_send : IsSend the_row
+place_send = view_send _ _ _ _ _ (recorded_send inside.the_field.row _ _ inside.the_type.to_one
+    (struct_send (shape inside.the_type) (kept.the_field_send, (snapshot_send kind_row, (snapshot_send (sequence_row core_row), tt)))))
+
+pub place_sync : IsSync the_row
+place_sync = view_sync _ _ _ _ _ (recorded_sync inside.the_field.row _ _ inside.the_type.to_one
+    (struct_sync (shape inside.the_type) (kept.the_field_sync, (snapshot_sync kind_row, (snapshot_sync (sequence_row core_row), tt)))))
+
+-- what a search cites where places cross threads
+pub ruleset crossing = (sendable, place_send, place_sync)

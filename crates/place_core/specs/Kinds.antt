@@ -1,0 +1,65 @@
+-- What each kind of place is, as the machine has it.
+use Rattle.std.specs.Prelude.{◌≡◌, ℕ, ◌+◌, ◌<◌, Bool, true, false, unwrap_or, List, [], map, ⊤}
+use Rattle.svsm_types.specs.Numbers.{Numbers}
+use Rattle.svsm_types.specs.declared.image.CoreLine.{CoreLine}
+use Rattle.svsm_steps.specs.declared.step.Step.{Step}
+use Rattle.svsm_steps.specs.Mapped.{AreBlocks, AreRows}
+use Rattle.svsm_steps.specs.Places.{PlaceValue, in_region, in_pool, in_registry}
+use Rattle.region_core.specs.Whole.{whole}
+use Rattle.region_core.specs.Steps.{page_of_step}
+use Rattle.rmp_table.specs.PackedKnown.{packed_known}
+use Rattle.place_core.specs.declared.kind.Kind.{Kind}
+use Rattle.place_core.specs.declared.kind.Kind.TheVariants.{Region, Pool, Registry}
+
+-- the state of a place
+abbrev pub value_of : Kind → PlaceValue
+value_of (Region region) = in_region (whole (packed_known region.scene) region.owners)
+value_of (Pool pool) = in_pool pool.blocks
+value_of (Registry registry) = in_registry registry.rows
+
+-- no operation was made, and none is listed: the pool and the registry have no operations
+abbrev pub no_numbers : Numbers
+no_numbers = record { made = 0; faulting = [] }
+
+-- the operation numbers of a place, as its platform tells them
+abbrev pub numbers_of : Kind → Numbers
+numbers_of (Region region) = unwrap_or (packed_known region.scene).told no_numbers
+numbers_of (Pool pool) = no_numbers
+numbers_of (Registry registry) = no_numbers
+
+-- the APIC ids that hold at a place: the registry keeps its own, others go by the core lines
+abbrev pub apics_in : List CoreLine → Kind → List ℕ
+apics_in cores (Region region) = map (λ (core : CoreLine). core.apic) cores
+apics_in cores (Pool pool) = map (λ (core : CoreLine). core.apic) cores
+apics_in cores (Registry registry) = registry.apics
+
+-- the number of a place among so many regions: that of its region, then the pool, then the registry
+abbrev pub IsPlaced : ℕ → ℕ → Kind → Type 0
+IsPlaced regions number (Region region) = ((packed_known region.scene).region ≡ number) × (number < regions)
+IsPlaced regions number (Pool pool) = number ≡ regions
+IsPlaced regions number (Registry registry) = number ≡ regions + 1
+
+-- the blocks and the rows of a place lie in the map
+abbrev pub IsMappedAt : ℕ → PlaceValue → Type 0
+IsMappedAt regions (in_region r) = ⊤
+IsMappedAt regions (in_pool blocks) = AreBlocks regions blocks
+IsMappedAt regions (in_registry rows) = AreRows regions rows
+
+-- room was made for what a step writes: the words of its page, a block or a row
+abbrev pub has_room_for : Step → Kind → Bool
+has_room_for step (Region region) = (packed_known region.scene).room (page_of_step step)
+has_room_for step (Pool pool) = pool.spare
+has_room_for step (Registry registry) = registry.spare
+
+-- whether a place is a region, the pool or the registry
+abbrev pub is_region : Kind → Bool
+is_region (Region region) = true
+is_region _ = false
+
+abbrev pub is_pool : Kind → Bool
+is_pool (Pool pool) = true
+is_pool _ = false
+
+abbrev pub is_registry : Kind → Bool
+is_registry (Registry registry) = true
+is_registry _ = false

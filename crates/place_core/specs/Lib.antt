@@ -1,0 +1,11 @@
+pub mod Kinds
+pub mod Lists
+pub mod Numbered
+pub mod Opened
+pub mod PlaceInside
+pub mod PlaceView
+pub mod Pools
+pub mod Regions
+pub mod Starts
+pub mod Turned
+pub mod TurnsInside

@@ -1,0 +1,23 @@
+//! The places of the module: each region, the deposit pool and the registry of vCPUs, with the log of what each answered.
+//!
+//! `open_regions`, `open_pool` and `open_places` make them of an image, and `Turns` takes them in turn.
+#![tactic(auto)]
+
+mod blocks;
+mod kind;
+mod kinds;
+mod lists;
+mod open;
+mod place;
+mod regions;
+mod start;
+#[cfg(test)]
+mod tests;
+mod turns;
+
+pub use blocks::open_pool;
+pub use kind::Kind;
+pub use open::open_places;
+pub use place::Place;
+pub use regions::open_regions;
+pub use turns::Turns;
