@@ -6,13 +6,17 @@ use Rattle.svsm_steps.specs.declared.step.Step.{Step}
 use Rattle.svsm_steps.specs.declared.entry.Entry.{Entry}
 use Rattle.svsm_steps.specs.declared.answer.Answer.{Answer}
 use Rattle.svsm_steps.specs.Place.{place_of}
-use Rattle.svsm_steps.specs.Places.{of_place}
+use Rattle.svsm_types.specs.Numbers.{Numbers}
+use Rattle.svsm_steps.specs.Places.{PlaceValue, IsReplay, of_place}
+use Rattle.svsm_steps.specs.PlaceFaults.{FollowsAt}
+use Rattle.std.proofs.lemmas.List.{get_or-map}
+use Rattle.place_core.specs.Kinds.{value_of, numbers_of}
 use Rattle.svsm_steps.specs.Lawful.{IsAbove}
 use Rattle.svsm_steps.specs.Formed.{IsWellFormed, AreWellFormed}
 use Rattle.svsm_steps.specs.Histories.{HaveTicketsFrom, HaveTheirPlaces}
 use Rattle.place_core.specs.declared.kind.Kind.{Kind}
 use Rattle.place_core.specs.PlaceView.{PlaceView}
-use Rattle.place_core.specs.Turned.{TurnsView, EachPlace, IsAtRest, IsHistory, apics_of, openings_of}
+use Rattle.place_core.specs.Turned.{TurnsView, EachPlace, IsAtRest, IsHistory, AreLogs, apics_of, openings_of}
 
 -- THE HISTORY
 
@@ -154,6 +158,110 @@ each_turned regions places history more i old new entry low is t at added h =
 
     set_there : (number : ℕ) (none : PlaceView) → number ≢ i → get_or (set places i new) number none ≡ get_or places number none
     set_there number none apart = get_or-set_other places i number new none apart
+
+-- what the place that stepped has as its log
+pub record IsLogged (place : PlaceView) : Type 0 where
+  pub replays : IsReplay place.apics (value_of place.opening) place.log
+  pub follows : FollowsAt place.apics (numbers_of place.opening) (value_of place.opening) place.log
+
+-- the logs after a step
+pub logs_turned : (regions : ℕ) (places : List PlaceView) (history more : List Entry) (i : ℕ) (old new : PlaceView) (entry : Entry) → i < length places
+    → old ≡ get_or places i old → Turned old new entry → new.opening ≡ old.opening → entry.place ≡ i → more ≡ history ++ entry ∷ []
+    → IsAtRest regions (apics_of places) history i old → IsLogged new
+    → AreLogs (apics_of places) (openings_of places) history
+    → AreLogs (apics_of (set places i new)) (openings_of (set places i new)) more
+logs_turned regions places history more i old new entry low is t opening at added rest logged h =
+    subst (λ (a : List ℕ). AreLogs a (openings_of (set places i new)) more) (sym (apics_set places i old new is t.apics))
+    (subst (λ (o : List Kind). AreLogs (apics_of places) o more) (sym (openings_turned places i old new is opening))
+    (subst (λ (l : List Entry). AreLogs (apics_of places) (openings_of places) l) (sym added)
+    (λ number none within. ⊎_elim
+    (λ (e : (entry.place == number) ≡ true).
+    let same : i ≡ number = sym at ∙ eqb-true entry.place number e in
+    subst (λ (n : ℕ). IsReplay (apics_of places) (value_of (get_or (openings_of places) n none)) (of_place n (history ++ entry ∷ []))
+    × FollowsAt (apics_of places) (numbers_of (get_or (openings_of places) n none)) (value_of (get_or (openings_of places) n none)) (of_place n (history ++ entry ∷ []))) same
+    (here none))
+    (λ (e : (entry.place == number) ≡ false).
+    subst (λ (l : List Entry). IsReplay (apics_of places) (value_of (get_or (openings_of places) number none)) l
+    × FollowsAt (apics_of places) (numbers_of (get_or (openings_of places) number none)) (value_of (get_or (openings_of places) number none)) l)
+    (sym (part_there number history entry e)) (h number none within))
+    (cases_Bool (entry.place == number)))))
+  where
+    made_as : (none : Kind) → get_or (openings_of places) i none ≡ new.opening
+    made_as none =
+        get_or-map (λ (place : PlaceView). place.opening) places i old none low
+        ∙ (ap (λ (place : PlaceView). place.opening) (sym is) ∙ sym opening)
+
+    apics_are : new.apics ≡ apics_of places
+    apics_are = t.apics ∙ rest.apics_is
+
+    log_is : new.log ≡ of_place i (history ++ entry ∷ [])
+    log_is = t.log ∙ (ap (λ (l : List Entry). l ++ entry ∷ []) rest.log_is ∙ sym (part_here i history entry at))
+
+    here : (none : Kind) → IsReplay (apics_of places) (value_of (get_or (openings_of places) i none)) (of_place i (history ++ entry ∷ []))
+        × FollowsAt (apics_of places) (numbers_of (get_or (openings_of places) i none)) (value_of (get_or (openings_of places) i none)) (of_place i (history ++ entry ∷ []))
+    here none =
+        subst (λ (k : Kind). IsReplay (apics_of places) (value_of k) (of_place i (history ++ entry ∷ []))
+        × FollowsAt (apics_of places) (numbers_of k) (value_of k) (of_place i (history ++ entry ∷ []))) (sym (made_as none))
+        (subst (λ (a : List ℕ). IsReplay a (value_of new.opening) (of_place i (history ++ entry ∷ []))
+        × FollowsAt a (numbers_of new.opening) (value_of new.opening) (of_place i (history ++ entry ∷ []))) apics_are
+        (subst (λ (l : List Entry). IsReplay new.apics (value_of new.opening) l × FollowsAt new.apics (numbers_of new.opening) (value_of new.opening) l) log_is
+        (logged.replays, logged.follows)))
+
+-- a place as it was, but for room
+pub record Same (old new : PlaceView) : Type 0 where
+  pub number : new.number ≡ old.number
+  pub regions : new.regions ≡ old.regions
+  pub apics : new.apics ≡ old.apics
+  pub log : new.log ≡ old.log
+  pub pending : new.pending ≡ old.pending
+
+rest_same : (regions : ℕ) (apics : List ℕ) (history : List Entry) (number : ℕ) (old new : PlaceView) → Same old new
+    → IsAtRest regions apics history number old → IsAtRest regions apics history number new
+rest_same regions apics history number old new t h = record {
+  number_is = t.number ∙ h.number_is;
+  regions_is = t.regions ∙ h.regions_is;
+  apics_is = t.apics ∙ h.apics_is;
+  log_is = t.log ∙ h.log_is;
+  at_rest = t.pending ∙ h.at_rest;
+}
+
+pub each_same : (regions : ℕ) (places : List PlaceView) (history : List Entry) (i : ℕ) (old new : PlaceView) → i < length places
+    → old ≡ get_or places i old → Same old new
+    → EachPlace places (IsAtRest regions (apics_of places) history)
+    → EachPlace (set places i new) (IsAtRest regions (apics_of (set places i new)) history)
+each_same regions places history i old new low is t h =
+    subst (λ (a : List ℕ). EachPlace (set places i new) (IsAtRest regions a history)) (sym (apics_set places i old new is t.apics))
+    (λ number none within.
+    let old_within : number < length places = omega (arith, within, length_set places i new) in
+    ⊎_elim
+    (λ (e : (i == number) ≡ true).
+    let same : i ≡ number = eqb-true i number e in
+    let here : IsAtRest regions (apics_of places) history i old = subst (λ (p : PlaceView). IsAtRest regions (apics_of places) history i p) (sym is) (h i old low) in
+    subst (λ (n : ℕ). IsAtRest regions (apics_of places) history n (get_or (set places i new) n none)) same
+    (subst (λ (p : PlaceView). IsAtRest regions (apics_of places) history i p) (sym (get_or-set_same places i new none low))
+    (rest_same regions (apics_of places) history i old new t here)))
+    (λ (e : (i == number) ≡ false).
+    let apart : number ≢ i = λ (same : number ≡ i). eqb-false i number e (sym same) in
+    subst (λ (p : PlaceView). IsAtRest regions (apics_of places) history number p) (sym (get_or-set_other places i number new none apart))
+    (h number none old_within))
+    (cases_Bool (i == number)))
+
+pub logs_same : (places : List PlaceView) (history : List Entry) (i : ℕ) (old new : PlaceView)
+    → old ≡ get_or places i old → new.apics ≡ old.apics → new.opening ≡ old.opening
+    → AreLogs (apics_of places) (openings_of places) history
+    → AreLogs (apics_of (set places i new)) (openings_of (set places i new)) history
+logs_same places history i old new is apics opening h =
+    subst (λ (a : List ℕ). AreLogs a (openings_of (set places i new)) history) (sym (apics_set places i old new is apics))
+    (subst (λ (o : List Kind). AreLogs (apics_of places) o history) (sym (openings_turned places i old new is opening)) h)
+
+-- no place has made a step
+parts_none : (apics : List ℕ) (numbers : Numbers) (place : PlaceValue) (entries : List Entry) → entries ≡ [] → IsReplay apics place entries × FollowsAt apics numbers place entries
+parts_none apics numbers place entries none = subst (λ (l : List Entry). IsReplay apics place l × FollowsAt apics numbers place l) (sym none) (tt, tt)
+
+pub logs_none : (apics : List ℕ) (openings : List Kind) (history : List Entry) → history ≡ [] → AreLogs apics openings history
+logs_none apics openings history none number kind within =
+    parts_none apics (numbers_of (get_or openings number kind)) (value_of (get_or openings number kind)) (of_place number history)
+    (ap (λ (l : List Entry). of_place number l) none)
 
 -- WHAT IS SEEN
 

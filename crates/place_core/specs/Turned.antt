@@ -5,10 +5,12 @@ use Rattle.svsm_steps.specs.declared.step.Step.{Step}
 use Rattle.svsm_steps.specs.declared.answer.Answer.{Answer}
 use Rattle.svsm_steps.specs.declared.entry.Entry.{Entry}
 use Rattle.svsm_steps.specs.Place.{place_of}
-use Rattle.svsm_steps.specs.Places.{of_place}
+use Rattle.svsm_steps.specs.Places.{IsReplay, of_place}
+use Rattle.svsm_steps.specs.PlaceFaults.{FollowsAt}
 use Rattle.svsm_steps.specs.Histories.{HaveTicketsFrom, HaveTheirPlaces}
 use Rattle.svsm_steps.specs.Formed.{AreWellFormed}
 use Rattle.place_core.specs.declared.kind.Kind.{Kind}
+use Rattle.place_core.specs.Kinds.{value_of, numbers_of}
 use Rattle.place_core.specs.PlaceView.{PlaceView}
 
 -- what is seen of them: what each place was made as, and the history since
@@ -49,6 +51,14 @@ pub record IsHistory (regions : ℕ) (history : List Entry) : Type 0 where
   pub tickets : HaveTicketsFrom 0 history
   pub places : HaveTheirPlaces regions history
   pub formed : AreWellFormed regions history
+
+-- the entries of each place are a log that it may have had since it was made, and fault where they are due to
+abbrev pub AreLogs : List ℕ → List Kind → List Entry → Type 0
+AreLogs apics openings history =
+    (number : ℕ) (none : Kind) → number < length openings
+    → IsReplay apics (value_of (slice_index_or openings number none)) (of_place number history)
+    × FollowsAt apics (numbers_of (slice_index_or openings number none)) (value_of (slice_index_or openings number none))
+    (of_place number history)
 
 -- the places at the end, with what they were made as
 pub record AreClosed (turns : TurnsView) (places : List PlaceView) : Type 0 where

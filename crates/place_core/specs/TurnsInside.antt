@@ -1,7 +1,7 @@
 -- What keeps places in turn.
 use Rattle.std.specs.Prelude.{◌≡◌, ◌+◌, ◌≤◌, length}
 use Rattle.place_core.specs.declared.turns.Turns.TheInside.{Inside}
-use Rattle.place_core.specs.Turned.{TurnsView, EachPlace, IsAtRest, IsHistory, apics_of, openings_of}
+use Rattle.place_core.specs.Turned.{TurnsView, EachPlace, IsAtRest, IsHistory, AreLogs, apics_of, openings_of}
 
 -- what contracts see of them
 abbrev pub turns_view : Inside → TurnsView
@@ -19,3 +19,4 @@ pub record IsInTurn (t : Inside) : Type 0 where
   pub count : length t.places.items ≡ t.regions + 2
   pub each : EachPlace t.places.items (IsAtRest t.regions (apics_of t.places.items) t.history.items)
   pub history : IsHistory t.regions t.history.items
+  pub logs : AreLogs (apics_of t.places.items) (openings_of t.places.items) t.history.items

@@ -124,7 +124,8 @@ impl Place {
 
     /// The region; None where it is another place.
     pub fn region(&self) -> Option<&Region<PackedRmp>>
-        ensures { MatchOption result (is_region self.now.kind ≡ false) (λ region. self.now.kind ≡ Kind.Region region.now) }
+        ensures kind { MatchOption result (is_region self.now.kind ≡ false) (λ region. self.now.kind ≡ Kind.Region region.now) }
+        ensures here { IfSome result (λ region. (packed_known region.now.scene).region ≡ self.now.number) }
     {
         match &self.kept.kind {
             Kind::Region(region) => Some(region),

@@ -1,9 +1,9 @@
 //! Places taken in turn, with one history.
-ghost use Rattle.std.specs.Prelude.{◌≡◌, ◌<◌, ◌≤◌, ◌+◌, ◌∷◌, ◌++◌, ℕ, [], map, length, IfOk, OnErr, slice_index_or};
+ghost use Rattle.std.specs.Prelude.{◌≡◌, ◌<◌, ◌≤◌, ◌+◌, ◌^◌, ◌∷◌, ◌++◌, ℕ, [], map, length, IfOk, OnOk, OnErr, slice_index_or};
 ghost use Rattle.svsm_steps.specs.Place.{place_of};
 ghost use Rattle.svsm_steps.specs.Formed.{IsWellFormed, IsAnswer};
 ghost use Rattle.place_core.specs.PlaceView.{PlaceView};
-ghost use Rattle.place_core.specs.Turned.{IsFresh, EachPlace, AreClosed, apics_of, openings_of, turn_of};
+ghost use Rattle.place_core.specs.Turned.{IsFresh, EachPlace, AreClosed, AreLogs, IsHistory, apics_of, openings_of, turn_of};
 
 use crate::Place;
 use std::alloc::Global;
@@ -55,6 +55,10 @@ impl Turns {
         ensures ok { IfOk result (λ told. self.new ≡ record self.old { history = self.old.history ++ turn_of self.old core step.now told.1 ∷ [] }) }
         ensures answer { IfOk result (λ told. IsAnswer self.old.regions step.now told.1) }
         ensures err { OnErr result (self.new ≡ self.old) }
+        ensures few { IfOk result (λ told. told.0 < 2 ^ 63) }
+        // What each place made so far is a log that it may have, with the faults that are due.
+        ensures history { OnOk result (IsHistory self.new.regions self.new.history) }
+        ensures logs { OnOk result (AreLogs self.new.apics self.new.openings self.new.history) }
     {
         let number = place_of(self.regions, step);
         let ticket = self.history.len() as u64;
@@ -70,8 +74,16 @@ impl Turns {
             answer,
         };
         place.put(entry);
+        let _ = place.rested();
         self.history.push_reserved(entry);
         Ok((ticket, answer))
+    }
+
+    /// The places, at rest between two steps.
+    pub fn places(&self) -> &[Place]
+        ensures { AreClosed self.now result.now }
+    {
+        self.places.as_slice()
     }
 
     /// The places at rest, and the history: each place's log is its part of it.

@@ -1,6 +1,6 @@
 -- What was carried out, and why it was not.
-use Rattle.std.proofs.Common.{◌≡◌, ◌≢◌, ℕ, zero, suc, ◌+◌, ◌<◌, ◌≤◌, List, [], ◌∷◌, length, sym, ◌∙◌, ap, subst, inl, ⊎_elim, arith}
-use Rattle.std.specs.Prelude.{◌⊎◌, Option, Some, Ok, slice_index_or}
+use Rattle.std.proofs.Common.{◌≡◌, ◌≢◌, ℕ, zero, suc, ◌+◌, ◌<◌, ◌≤◌, List, [], ◌∷◌, length, refl, sym, ◌∙◌, ap, subst, inl, inr, ⊎_elim, arith}
+use Rattle.std.specs.Prelude.{◌⊎◌, Option, Some, Ok, Err, slice_index_or}
 use Rattle.svsm_types.specs.declared.image.Image.{Image}
 use Rattle.svsm_types.specs.declared.request.Request.{Request}
 use Rattle.svsm_types.specs.declared.owner.RmpRow.{RmpRow}
@@ -14,12 +14,16 @@ use Rattle.svsm_calls.specs.Run.{IsRun}
 use Rattle.svsm_outside.specs.Views.{ShelfView}
 use Rattle.command_words.specs.Words.{Run, run_in}
 use Rattle.script_reader.specs.declared.error.ScriptKind.{ScriptKind}
-use Rattle.run_core_top.specs.declared.image.ImageRefusal.{ImageRefusal}
+use Rattle.image_reader.specs.declared.kind.ImageKind.{ImageKind}
 use Rattle.run_core_top.specs.declared.stop.Stop.{Stop}
 use Rattle.run_core_top.specs.declared.stop.Stop.TheVariants as stops
 use Rattle.run_core_top.specs.Files.{image_in, script_in, Agrees, IsImageFile, IsScriptFile, AreScriptFiles, AreFiles}
-use Rattle.run_core_top.specs.Causes.{IsBadImage, IsBadScript, ImageCause, ScriptCause, ScriptsCause, IsTooMany, FilesCause, IsRefused, IsGoodScript, AreGood}
-use Rattle.run_core_top.specs.Stops.{status_of, stop_line}
+use Rattle.boot_core.specs.declared.error.BootError.{BootError}
+use Rattle.boot_core.specs.declared.error.BootError.TheVariants as boots
+use Rattle.boot_core.specs.Boots.{BootEnds, Boots}
+use Rattle.boot_core.proofs.WayLemmas.{one_way}
+use Rattle.run_core_top.specs.Causes.{IsBadImage, IsBadScript, ImageCause, ScriptCause, ScriptsCause, IsTooMany, FilesCause, BootCause, RunCause, IsRefused, IsGoodScript, AreGood}
+use Rattle.run_core_top.specs.Stops.{status_of, stop_of, stop_line}
 use Rattle.run_core_top.specs.Headline.{status_by, IsCarriedOut, StopsFor, StopsWith}
 use Rattle.report.specs.Report.{report_text}
 
@@ -60,18 +64,66 @@ no_write before now command cause =
     by_cause ⊥ before now command stops.Write cause (λ e. e) (λ image read many. cc many.1)
     (scripts_never before now stops.Write (λ number name e. e) 0 command.scripts)
 
+-- what files gave has a status of theirs
+files_status : (before now : ShelfView) (command : Run) (stop : Stop) → FilesCause before now command stop
+    → (3 ≤ status_of stop) × (status_of stop ≤ 5)
+files_status before now command stops.Words cause = absurd (no_words before now command cause)
+files_status before now command stops.Memory cause = (omega arith, omega arith)
+files_status before now command (stops.Image line k) cause = (omega arith, omega arith)
+files_status before now command (stops.Script core at k) cause = (omega arith, omega arith)
+files_status before now command (stops.Read file) cause = (omega arith, omega arith)
+files_status before now command stops.Write cause = absurd (no_write before now command cause)
+files_status before now command (stops.Msr sent got) cause =
+    absurd (by_cause ⊥ before now command (stops.Msr sent got) cause (λ e. e) (λ image read many. cc many.1)
+    (scripts_never before now (stops.Msr sent got) (λ number name e. e) 0 command.scripts))
+files_status before now command (stops.Exchange error) cause =
+    absurd (by_cause ⊥ before now command (stops.Exchange error) cause (λ e. e) (λ image read many. cc many.1)
+    (scripts_never before now (stops.Exchange error) (λ number name e. e) 0 command.scripts))
+files_status before now command (stops.Fault page) cause =
+    absurd (by_cause ⊥ before now command (stops.Fault page) cause (λ e. e) (λ image read many. cc many.1)
+    (scripts_never before now (stops.Fault page) (λ number name e. e) 0 command.scripts))
+
+-- WHAT A BOOT GIVES
+
+-- a boot's stop is told by the status 7, or memory ran out
+boot_status : (error : BootError) → (status_of (stop_of error) ≡ 7) ⊎ (status_of (stop_of error) ≡ 3)
+boot_status (boots.Msr sent got) = inl refl
+boot_status (boots.Psc error) = inl refl
+boot_status (boots.Fault page) = inl refl
+boot_status boots.NoMemory = inr refl
+
+boot_stop_status : (error : BootError) (stop : Stop) → stop ≡ stop_of error → (3 ≤ status_of stop) × (status_of stop ≢ 6) × (status_of stop ≢ 4)
+boot_stop_status error stop same =
+    let of : status_of stop ≡ status_of (stop_of error) = ap status_of same in
+    ⊎_elim (λ (seven : status_of (stop_of error) ≡ 7). (omega arith, (λ e. omega arith), (λ e. omega arith)))
+    (λ (three : status_of (stop_of error) ≡ 3). (omega arith, (λ e. omega arith), (λ e. omega arith)))
+    (boot_status error)
+
+run_status : (before now : ShelfView) (command : Run) (stop : Stop) → RunCause before now command stop
+    → (3 ≤ status_of stop) × (status_of stop ≢ 6)
+run_status before now command stop cause =
+    ⊎_elim (λ (files : FilesCause before now command stop).
+    let both = files_status before now command stop files in (both.0, (λ e. omega (arith, both.1))))
+    (λ (boot : BootCause before now command stop).
+    let both = boot_stop_status boot.error stop boot.stop_is in (both.0, both.1))
+    cause
+
 pub stops_for : (before now : ShelfView) (words : List (List ℕ)) (command : Run) (stop : Stop)
-    → run_in words ≡ Some command → FilesCause before now command stop → StopsFor before now words stop
-stops_for before now words command stops.Words is cause = absurd (no_words before now command cause)
+    → run_in words ≡ Some command → RunCause before now command stop → StopsFor before now words stop
+stops_for before now words command stops.Words is cause =
+    let status = run_status before now command stops.Words cause in absurd (omega (arith, status.0))
 stops_for before now words command stops.Memory is cause = (command, is, cause)
 stops_for before now words command (stops.Image line k) is cause = (command, is, cause)
 stops_for before now words command (stops.Script core at k) is cause = (command, is, cause)
 stops_for before now words command (stops.Read file) is cause = (command, is, cause)
 stops_for before now words command stops.Write is cause = (command, is, cause)
+stops_for before now words command (stops.Msr sent got) is cause = (command, is, cause)
+stops_for before now words command (stops.Exchange error) is cause = (command, is, cause)
+stops_for before now words command (stops.Fault page) is cause = (command, is, cause)
 
 -- the stop that was told, which is the one met or want of memory
 pub stops_with : (before now : ShelfView) (words : List (List ℕ)) (command : Run) (met : Stop) (status : ℕ) (IsTold : List ℕ → Type 0)
-    → run_in words ≡ Some command → FilesCause before now command met
+    → run_in words ≡ Some command → RunCause before now command met
     → ((stop : Stop) × ((stop ≡ met) ⊎ (stop ≡ stops.Memory)) × (status ≡ status_of stop) × IsTold (stop_line stop))
     → StopsWith before now words status IsTold
 stops_with before now words command met status IsTold is cause made = record {
@@ -80,25 +132,36 @@ stops_with before now words command met status IsTold is cause made = record {
   cause = ⊎_elim
       (λ (same : made.0 ≡ met). subst (λ (stop : Stop). StopsFor before now words stop) (sym same) (stops_for before now words command met is cause))
       (λ (memory : made.0 ≡ stops.Memory). subst (λ (stop : Stop). StopsFor before now words stop) (sym memory)
-      (stops_for before now words command stops.Memory is (inl tt)))
+      (stops_for before now words command stops.Memory is (inl (inl tt))))
       made.1;
   line = made.3;
 }
 
--- the status of a stop at words of the form
-status_for : (before now : ShelfView) (words : List (List ℕ)) (command : Run) (stop : Stop) → run_in words ≡ Some command
-    → StopsFor before now words stop → (3 ≤ status_of stop) × (status_of stop ≤ 5)
-status_for before now words command stops.Words is cause = cc
-status_for before now words command stops.Memory is cause = (omega arith, omega arith)
-status_for before now words command (stops.Image line k) is cause = (omega arith, omega arith)
-status_for before now words command (stops.Script core at k) is cause = (omega arith, omega arith)
-status_for before now words command (stops.Read file) is cause = (omega arith, omega arith)
-status_for before now words command stops.Write is cause = absurd (no_write before now cause.0 cause.2)
+-- why it stopped, at words of the form
+cause_for : (before now : ShelfView) (words : List (List ℕ)) (command : Run) (stop : Stop) → run_in words ≡ Some command
+    → StopsFor before now words stop → RunCause before now command stop
+cause_for before now words command stops.Words is cause = cc
+cause_for before now words command stops.Memory is cause =
+    let same : cause.0 ≡ command = cc in subst (λ (one : Run). RunCause before now one stops.Memory) same cause.2
+cause_for before now words command (stops.Image line k) is cause =
+    let same : cause.0 ≡ command = cc in subst (λ (one : Run). RunCause before now one (stops.Image line k)) same cause.2
+cause_for before now words command (stops.Script core at k) is cause =
+    let same : cause.0 ≡ command = cc in subst (λ (one : Run). RunCause before now one (stops.Script core at k)) same cause.2
+cause_for before now words command (stops.Read file) is cause =
+    let same : cause.0 ≡ command = cc in subst (λ (one : Run). RunCause before now one (stops.Read file)) same cause.2
+cause_for before now words command stops.Write is cause =
+    let same : cause.0 ≡ command = cc in subst (λ (one : Run). RunCause before now one stops.Write) same cause.2
+cause_for before now words command (stops.Msr sent got) is cause =
+    let same : cause.0 ≡ command = cc in subst (λ (one : Run). RunCause before now one (stops.Msr sent got)) same cause.2
+cause_for before now words command (stops.Exchange error) is cause =
+    let same : cause.0 ≡ command = cc in subst (λ (one : Run). RunCause before now one (stops.Exchange error)) same cause.2
+cause_for before now words command (stops.Fault page) is cause =
+    let same : cause.0 ≡ command = cc in subst (λ (one : Run). RunCause before now one (stops.Fault page)) same cause.2
 
 pub stopped_status : (before now : ShelfView) (words : List (List ℕ)) (status : ℕ) (IsTold : List ℕ → Type 0) (command : Run)
-    → StopsWith before now words status IsTold → run_in words ≡ Some command → (3 ≤ status) × (status ≤ 5)
+    → StopsWith before now words status IsTold → run_in words ≡ Some command → (3 ≤ status) × (status ≢ 6)
 stopped_status before now words status IsTold command h is =
-    subst (λ (n : ℕ). (3 ≤ n) × (n ≤ 5)) (sym h.is_status) (status_for before now words command h.stop is h.cause)
+    subst (λ (n : ℕ). (3 ≤ n) × (n ≢ 6)) (sym h.is_status) (run_status before now command h.stop (cause_for before now words command h.stop is h.cause))
 
 -- FILES THAT ARE TOLD
 
@@ -156,7 +219,7 @@ good_scripts before now core at k (name ∷ names) good number cause =
     good_scripts before now core at k names (λ i d lt. good (suc i) d (omega arith)) (number + 1) there.1)
     cause
 
-good_image : (before now : ShelfView) (command : Run) (line : ℕ) (k : ImageRefusal) → AreGood before.told command
+good_image : (before now : ShelfView) (command : Run) (line : ℕ) (k : ImageKind) → AreGood before.told command
     → ImageCause before now command.image (stops.Image line k) → ⊥
 good_image before now command line k good cause =
     let bad = subst (λ (told : Option (List ℕ)). IsBadImage told line k) good.is_told cause.1 in
@@ -171,52 +234,94 @@ good_count told command image stop good file many =
     let cores : length image.cores ≡ length good.image.cores = ap (λ (one : Image). length one.cores) same in
     omega (arith, good.few, many.0)
 
-good_stop : (before now : ShelfView) (words : List (List ℕ)) (command : Run) (stop : Stop) → run_in words ≡ Some command
-    → AreGood before.told command → StopsFor before now words stop → status_of stop ≢ 4
-good_stop before now words command stops.Words is good cause = λ e. omega arith
-good_stop before now words command stops.Memory is good cause = λ e. omega arith
-good_stop before now words command (stops.Image line k) is good cause =
-    let same : cause.0 ≡ command = cc in
-    let files = subst (λ (one : Run). FilesCause before now one (stops.Image line k)) same cause.2 in
-    λ e. by_cause ⊥ before now command (stops.Image line k) files (good_image before now command line k good)
+-- the image of files that are good is the one that was carried out
+good_image_is : (told : List ℕ → Option (List ℕ)) (command : Run) (image : Image) (good : AreGood told command) → IsImageFile (told command.image) image
+    → image ≡ good.image
+good_image_is told command image good file =
+    let read = image_read (told command.image) good.bytes image good.is_told file in
+    let other = good.read in cc
+
+good_files : (before now : ShelfView) (command : Run) (stop : Stop) → AreGood before.told command → FilesCause before now command stop
+    → status_of stop ≢ 4
+good_files before now command stops.Words good cause = λ e. omega arith
+good_files before now command stops.Memory good cause = λ e. omega arith
+good_files before now command (stops.Image line k) good cause =
+    λ e. by_cause ⊥ before now command (stops.Image line k) cause (good_image before now command line k good)
     (λ image read many. cc many.1) (scripts_never before now (stops.Image line k) (λ number name e. e) 0 command.scripts)
-good_stop before now words command (stops.Script core at k) is good cause =
-    let same : cause.0 ≡ command = cc in
-    let files = subst (λ (one : Run). FilesCause before now one (stops.Script core at k)) same cause.2 in
-    λ e. by_cause ⊥ before now command (stops.Script core at k) files (λ e. e)
+good_files before now command (stops.Script core at k) good cause =
+    λ e. by_cause ⊥ before now command (stops.Script core at k) cause (λ e. e)
     (λ image read many. good_count before.told command image (stops.Script core at k) good read many)
     (good_scripts before now core at k command.scripts (λ i d lt. good.scripts i d lt) 0)
-good_stop before now words command (stops.Read file) is good cause = λ e. omega arith
-good_stop before now words command stops.Write is good cause = λ e. omega arith
+good_files before now command (stops.Read file) good cause = λ e. omega arith
+good_files before now command stops.Write good cause = λ e. omega arith
+good_files before now command (stops.Msr sent got) good cause = λ e. omega arith
+good_files before now command (stops.Exchange error) good cause = λ e. omega arith
+good_files before now command (stops.Fault page) good cause = λ e. omega arith
 
 -- files that are good are not refused
 pub good_status : (before now : ShelfView) (words : List (List ℕ)) (status : ℕ) (IsTold : List ℕ → Type 0) (command : Run)
     → StopsWith before now words status IsTold → run_in words ≡ Some command → AreGood before.told command → status ≢ 4
 good_status before now words status IsTold command h is good =
-    subst (λ (n : ℕ). n ≢ 4) (sym h.is_status) (good_stop before now words command h.stop is good h.cause)
+    subst (λ (n : ℕ). n ≢ 4) (sym h.is_status)
+    (⊎_elim (λ (files : FilesCause before now command h.stop). good_files before now command h.stop good files)
+    (λ (boot : BootCause before now command h.stop). (boot_stop_status boot.error h.stop boot.stop_is).2)
+    (cause_for before now words command h.stop is h.cause))
+
+-- files that are refused are told by a status of theirs
+pub refused_status : (before now : ShelfView) (words : List (List ℕ)) (status : ℕ) (IsTold : List ℕ → Type 0) (command : Run)
+    → StopsWith before now words status IsTold → run_in words ≡ Some command → IsRefused before.told command → (3 ≤ status) × (status ≤ 5)
+refused_status before now words status IsTold command h is refused =
+    subst (λ (n : ℕ). (3 ≤ n) × (n ≤ 5)) (sym h.is_status)
+    (⊎_elim (λ (files : FilesCause before now command h.stop). files_status before now command h.stop files)
+    (λ (boot : BootCause before now command h.stop). absurd (never_both before.told command boot.image boot.scripts boot.files refused))
+    (cause_for before now words command h.stop is h.cause))
+
+-- an image that boots is not told to have failed in it
+pub boots_status : (before now : ShelfView) (words : List (List ℕ)) (status : ℕ) (IsTold : List ℕ → Type 0) (command : Run)
+    → StopsWith before now words status IsTold → run_in words ≡ Some command → (good : AreGood before.told command) → Boots good.image → status ≢ 7
+boots_status before now words status IsTold command h is good boots =
+    subst (λ (n : ℕ). n ≢ 7) (sym h.is_status)
+    (⊎_elim (λ (files : FilesCause before now command h.stop).
+    let both = files_status before now command h.stop files in λ e. omega (arith, both.1))
+    (λ (boot : BootCause before now command h.stop).
+    let same = good_image_is before.told command boot.image good boot.files.is_image in
+    let ends = subst (λ (one : Image). BootEnds one (Err boot.error)) same boot.ends in
+    let never = one_way good.image (Ok tt) (Err boot.error) boots ends in cc)
+    (cause_for before now words command h.stop is h.cause))
+
+-- an image that does not boot is not carried out
+pub never_carried : (told : List ℕ → Option (List ℕ)) (words : List (List ℕ)) (command other : Run) (image : Image) (scripts : List (List Request)) (error : BootError)
+    → run_in words ≡ Some command → run_in words ≡ Some other → AreFiles told command image scripts → Boots image
+    → (good : AreGood told other) → BootEnds good.image (Err error) → ⊥
+never_carried told words command other image scripts error is is_other files boots good ends =
+    let same : other ≡ command = cc in
+    let file = subst (λ (one : Run). IsImageFile (told one.image) image) (sym same) files.is_image in
+    let image_is = good_image_is told other image good file in
+    let never = one_way good.image (Ok tt) (Err error) (subst Boots image_is boots) ends in cc
 
 -- IN THE TOP CALL
 
 pub met_status : (before now : ShelfView) (words : List (List ℕ)) (command : Run) (met : Stop) (status : ℕ) (IsTold : List ℕ → Type 0)
-    → run_in words ≡ Some command → FilesCause before now command met
+    → run_in words ≡ Some command → RunCause before now command met
     → ((stop : Stop) × ((stop ≡ met) ⊎ (stop ≡ stops.Memory)) × (status ≡ status_of stop) × IsTold (stop_line stop))
-    → (3 ≤ status) × (status ≤ 5)
+    → (3 ≤ status) × (status ≢ 6)
 met_status before now words command met status IsTold is cause made =
     stopped_status before now words status IsTold command (stops_with before now words command met status IsTold is cause made) is
 
 pub carried : (told : List ℕ → Option (List ℕ)) (command : Run) (image : Image) (scripts items : List (List Request)) (trace kept : List Entry)
     (cores : List CoreRun) (rows : List RmpRow) (text : List ℕ) (status : ℕ)
-    → AreFiles told command image scripts → items ≡ scripts → IsRun image items trace cores
+    → AreFiles told command image scripts → Boots image → items ≡ scripts → IsRun image items trace cores
     → AlwaysSafe (constants_of image) (booted image) trace
     → rows ≡ rmp_rows image.regions (state_after (constants_of image) (booted image) trace)
     → kept ≡ trace → text ≡ report_text command.brief cores trace rows → status ≡ status_by cores
     → (made : IsCarriedOut told command kept text) × (status ≡ status_by made.report.cores)
-carried told command image scripts items trace kept cores rows text status files same run safe is_rows is_trace is_text is_status =
+carried told command image scripts items trace kept cores rows text status files boots same run safe is_rows is_trace is_text is_status =
     subst (λ (t : List Entry). (made : IsCarriedOut told command t text) × (status ≡ status_by made.report.cores)) (sym is_trace) (
       record {
         image = image;
         scripts = scripts;
         files = files;
+        boots = boots;
         report = record {
           cores = cores;
           run = subst (λ (given : List (List Request)). IsRun image given trace cores) same run;

@@ -8,15 +8,18 @@ use Rattle.svsm_outside.specs.Outside.{FailedAt}
 use Rattle.command_words.specs.Words.{Run}
 use Rattle.script_reader.specs.declared.error.ScriptKind.{ScriptKind}
 use Rattle.script_reader.specs.declared.error.ScriptKind.TheVariants as kinds
-use Rattle.run_core_top.specs.declared.image.ImageRefusal.{ImageRefusal}
+use Rattle.image_reader.specs.declared.kind.ImageKind.{ImageKind}
+use Rattle.boot_core.specs.declared.error.BootError.{BootError}
+use Rattle.boot_core.specs.Boots.{BootEnds}
 use Rattle.run_core_top.specs.declared.stop.Stop.{Stop}
 use Rattle.run_core_top.specs.declared.stop.Stop.TheVariants as stops
-use Rattle.run_core_top.specs.Files.{image_in, script_in, IsImageFile, IsScriptFile}
+use Rattle.run_core_top.specs.Files.{image_in, script_in, IsImageFile, IsScriptFile, AreFiles}
+use Rattle.run_core_top.specs.Stops.{stop_of}
 
 -- CAUSES
 
 -- a file that is told is refused so
-abbrev pub IsBadImage : Option (List ℕ) → ℕ → ImageRefusal → Type 0
+abbrev pub IsBadImage : Option (List ℕ) → ℕ → ImageKind → Type 0
 IsBadImage told line kind = IfSome told (λ bytes. image_in bytes ≡ Err (line, kind))
 
 abbrev pub IsBadScript : Option (List ℕ) → ℕ → ScriptKind → Type 0
@@ -57,11 +60,25 @@ FilesCause before now run stop =
     × (((now.faults ≡ before.faults) × IsTooMany (length run.scripts) (length image.cores) stop)
     ⊎ ((length run.scripts ≤ length image.cores) × ScriptsCause 0 before now run.scripts stop)))
 
+-- the files were read, and the boot of the image ended so against the host of its lines
+pub record BootCause (before now : ShelfView) (run : Run) (stop : Stop) : Type 0 where
+  pub image : Image
+  pub scripts : List (List Request)
+  pub error : BootError
+  pub calm : now.faults ≡ before.faults
+  pub files : AreFiles before.told run image scripts
+  pub ends : BootEnds image (Err error)
+  pub stop_is : stop ≡ stop_of error
+
+-- why a run was not carried out, or no memory was left for it: its files come first, and then the boot of its image
+abbrev pub RunCause : ShelfView → ShelfView → Run → Stop → Type 0
+RunCause before now run stop = FilesCause before now run stop ⊎ BootCause before now run stop
+
 -- FILES THAT ARE TOLD
 
 -- a file of the run is refused
 pub data IsRefused (told : List ℕ → Option (List ℕ)) (run : Run) : Type 0 where
-  image : (bytes : List ℕ) (bad : ℕ × ImageRefusal) → told run.image ≡ Some bytes → image_in bytes ≡ Err bad → IsRefused told run
+  image : (bytes : List ℕ) (bad : ℕ × ImageKind) → told run.image ≡ Some bytes → image_in bytes ≡ Err bad → IsRefused told run
   count :
       (bytes : List ℕ) (image : Image) → told run.image ≡ Some bytes → image_in bytes ≡ Ok image
       → length image.cores < length run.scripts → IsRefused told run

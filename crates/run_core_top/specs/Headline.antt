@@ -18,7 +18,8 @@ use Rattle.command_words.specs.Words.{Run, run_in}
 use Rattle.run_core_top.specs.declared.stop.Stop.{Stop}
 use Rattle.run_core_top.specs.declared.stop.Stop.TheVariants as stops
 use Rattle.run_core_top.specs.Files.{AreFiles}
-use Rattle.run_core_top.specs.Causes.{FilesCause}
+use Rattle.boot_core.specs.Boots.{Boots}
+use Rattle.run_core_top.specs.Causes.{RunCause}
 use Rattle.run_core_top.specs.Stops.{status_of, stop_line}
 use Rattle.report.specs.Report.{report_text}
 
@@ -49,6 +50,7 @@ pub record IsCarriedOut (told : List ℕ → Option (List ℕ)) (command : Run) 
   pub image : Image
   pub scripts : List (List Request)
   pub files : AreFiles told command image scripts
+  pub boots : Boots image
   pub report : IsReported image scripts command.brief trace text
 
 -- the run of the words was carried out and all was written; the status says whether each core ended well
@@ -68,10 +70,10 @@ pub record IsCutOff (shelf : ShelfView) (words : List (List ℕ)) (before now : 
   pub carried_out : IsCarriedOut shelf.told command trace text
   pub printed : IsWrittenInPart before now text
 
--- why the words were not carried out: they are not of the form, or their files have this cause
+-- why the words were not carried out: they are not of the form, or their files or the boot of their image have this cause
 abbrev pub StopsFor : ShelfView → ShelfView → List (List ℕ) → Stop → Type 0
 StopsFor before now words stops.Words = run_in words ≡ None
-StopsFor before now words stop = (command : Run) × (run_in words ≡ Some command) × FilesCause before now command stop
+StopsFor before now words stop = (command : Run) × (run_in words ≡ Some command) × RunCause before now command stop
 
 -- the status came of a stop with its cause, and its line was told
 pub record StopsWith (before now : ShelfView) (words : List (List ℕ)) (status : ℕ) (IsTold : List ℕ → Type 0) : Type 0 where

@@ -1,4 +1,3 @@
-pub mod Image
 pub mod Files
 pub mod Stops
 pub mod Causes

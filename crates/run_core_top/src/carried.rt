@@ -1,7 +1,7 @@
 //! The files of a run, carried out and reported on.
 ghost use Rattle.std.specs.Prelude.{◌≡◌, ◌≤◌, IfOk, IfErr, OnOk};
 ghost use Rattle.command_words.specs.Seen.{run_seen};
-ghost use Rattle.run_core_top.specs.Causes.{FilesCause};
+ghost use Rattle.run_core_top.specs.Causes.{RunCause};
 ghost use Rattle.run_core_top.specs.Headline.{ends_well, all_end_well, status_by, IsCarriedOut};
 ghost use Rattle.report.specs.Report.{report_text};
 
@@ -65,7 +65,7 @@ fn report_on(alloc: Global, brief: bool, run: ImageRun) -> Result<Report, NoMemo
     })
 }
 
-/// Loads the files of a run, carries it out, and reports on it.
+/// Loads the files of a run, boots its image, carries it out, and reports on it.
 pub fn carry_out<R: Wait, S: Shelf, G: Gate>(
     rt: &R,
     alloc: Global,
@@ -78,7 +78,7 @@ pub fn carry_out<R: Wait, S: Shelf, G: Gate>(
     ensures report { IfOk result (λ report. (made : IsCarriedOut (S.seen shelf.old).told (run_seen run.now) report.trace report.text.items)
         × (report.status ≡ status_by made.report.cores)) }
     ensures status { IfOk result (λ report. report.status ≤ 1) }
-    ensures stop { IfErr result (λ stop. FilesCause (S.seen shelf.old) (S.seen shelf.new) (run_seen run.now) stop) }
+    ensures stop { IfErr result (λ stop. RunCause (S.seen shelf.old) (S.seen shelf.new) (run_seen run.now) stop) }
 {
     let files = load_files(alloc, shelf, run)?;
     let whole = run_image(rt, alloc, &files.image, files.scripts.as_slice(), gate)?;

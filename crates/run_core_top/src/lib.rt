@@ -2,12 +2,10 @@
 #![tactic(auto)]
 
 mod carried;
-mod image;
 mod load;
 mod open_gate;
 mod program;
 mod stop;
-mod text;
 mod top;
 
 pub use open_gate::OpenGate;

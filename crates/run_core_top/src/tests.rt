@@ -1,11 +1,12 @@
+mod boot;
 mod images;
 mod outside;
 mod rows;
 
 use super::*;
-use crate::image::ImageRefusal;
 use crate::stop::{Stop, tell_stop};
 use image_reader::ImageKind;
+use psc_batch::PscError;
 use script_reader::ScriptKind;
 use std::alloc::Global;
 use std::io;
@@ -54,17 +55,18 @@ fn each_stop_prints_its_line(rt: HostRuntime) -> Result<(), Fail> {
         (Stop::Write, "svsm_run: write\n"),
         (
             Stop::Image {
-                line: 0,
-                kind: ImageRefusal::Unbuilt,
-            },
-            "svsm_run: image line 0x0 unbuilt\n",
-        ),
-        (
-            Stop::Image {
                 line: 3,
-                kind: ImageRefusal::Bad(ImageKind::Missing),
+                kind: ImageKind::Missing,
             },
             "svsm_run: image line 0x3 missing\n",
+        ),
+        (
+            Stop::Msr { sent: 0x80, got: 0 },
+            "svsm_run: boot msr 0x80 0x0\n",
+        ),
+        (
+            Stop::Exchange(PscError::End { sent: 3, got: 4 }),
+            "svsm_run: boot end 0x3 0x4\n",
         ),
     ];
     for (stop, line) in stops {

@@ -1,7 +1,9 @@
 //! The top call.
-ghost use Rattle.std.specs.Prelude.{◌≡◌, ◌≢◌, ◌≤◌, ◌↔◌, ◌⊎◌, [], None, Some, map, string_bytes};
+ghost use Rattle.std.specs.Prelude.{◌≡◌, ◌≢◌, ◌≤◌, ◌↔◌, ◌⊎◌, [], None, Some, Err, map, string_bytes};
 ghost use Rattle.svsm_outside.specs.Outside.{Rose, Tells};
 ghost use Rattle.command_words.specs.Words.{Run, run_in};
+ghost use Rattle.boot_core.specs.declared.error.BootError.{BootError};
+ghost use Rattle.boot_core.specs.Boots.{BootEnds, Boots};
 ghost use Rattle.run_core_top.specs.declared.stop.Stop.{Stop};
 ghost use Rattle.run_core_top.specs.declared.stop.Stop.TheVariants as stops;
 ghost use Rattle.run_core_top.specs.Causes.{IsRefused, AreGood};
@@ -68,6 +70,12 @@ pub fn svsm_top<R: Threads + Wait + Sync, S: Shelf, W: Sink, E: Sink, G: Gate + 
         → (3 ≤ result.status) × (result.status ≤ 5) }
     // and files that are told and of their grammar are not.
     ensures good { (run : Run) → run_in (map string_bytes words.now) ≡ Some run → AreGood (S.seen shelf.old).told run → result.status ≢ 4 }
+    // An image that boots is not told to fail in it,
+    ensures boots { (run : Run) → run_in (map string_bytes words.now) ≡ Some run → (good : AreGood (S.seen shelf.old).told run)
+        → Boots good.image → result.status ≢ 7 }
+    // and one that does not boot is: there are just want of memory, a load that failed, and the boot.
+    ensures unbooted { (run : Run) → run_in (map string_bytes words.now) ≡ Some run → (good : AreGood (S.seen shelf.old).told run)
+        → (error : BootError) → BootEnds good.image (Err error) → (3 ≤ result.status) × (result.status ≢ 6) }
 {
     match command_of(alloc, words) {
         Err(NoMemory) => stopped(alloc, err, Stop::Memory),

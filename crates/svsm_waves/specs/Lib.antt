@@ -3,3 +3,8 @@ pub mod Moved
 pub mod Wave
 pub mod Props
 pub mod Small
+pub mod Raised
+pub mod InTurn
+pub mod Kept
+pub mod RaisedLaws
+pub mod Joined

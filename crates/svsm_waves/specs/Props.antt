@@ -19,11 +19,11 @@ use Rattle.svsm_steps.specs.State.{Block}
 use Rattle.svsm_steps.specs.Formed.{IsSizedPage, IsWellFormed, AreWellFormed}
 use Rattle.svsm_steps.specs.Mapped.{AreBlocks, AreRows, IsMapped}
 
-plan_prop : (r : RegionState) (step : Step) (answer : Answer) (o : Option ℕ) → IsProp (AnswersPlan r step answer o)
+pub plan_prop : (r : RegionState) (step : Step) (answer : Answer) (o : Option ℕ) → IsProp (AnswersPlan r step answer o)
 plan_prop r step answer None = hlevel props
 plan_prop r step answer (Some done) = hlevel props
 
-match_prop : (answer : Answer) (P : Type 0) (o : Option Answer) → IsProp P → IsProp (MatchOption o P (λ other. answer ≡ other))
+pub match_prop : (answer : Answer) (P : Type 0) (o : Option Answer) → IsProp P → IsProp (MatchOption o P (λ other. answer ≡ other))
 match_prop answer P None h = h
 match_prop answer P (Some other) h = hlevel props
 

@@ -1,4 +1,4 @@
-//! A machine with its history.
+//! What the cores of an image run on, with its history.
 ghost use Rattle.std.specs.Prelude.{◌≡◌, ◌≤◌, ◌++◌, ◌∷◌, [], List, IfOk, OnErr};
 ghost use Rattle.svsm_types.specs.declared.image.Image.{Image};
 ghost use Rattle.svsm_steps.specs.declared.entry.Entry.{Entry};
@@ -10,8 +10,8 @@ use std::alloc::Global;
 use svsm_steps::{Answer, Step};
 use svsm_types::{NoMemory, Row};
 
-/// The machine of an image with its history, which is a run from the booted state.
-pub trait History: Drop {
+/// What the cores of an image run on, with its history, which is a run from the booted state.
+pub trait History: Sized + Drop {
     ghost image: { Self → Image };
 
     ghost trace: { Self → List Entry };
@@ -37,6 +37,11 @@ pub trait History: Drop {
         ensures answer { IfOk result (λ told. IsAnswer (image self.old).regions step.now told.1) }
         ensures kept { OnErr result (trace self.new ≡ trace self.old) }
         ensures image { image self.new ≡ image self.old };
+
+    /// The wave has ended: the next one begins where it left everything.
+    fn next_wave(self, alloc: Global) -> Result<Self, NoMemory>
+        ensures trace { IfOk result (λ next. trace next ≡ trace self) }
+        ensures image { IfOk result (λ next. image next ≡ image self) };
 
     ghost recorded: { (x : Self) → IsRecorded (image x) (trace x) };
 }

@@ -1,5 +1,5 @@
 //! The run of an image.
-ghost use Rattle.std.specs.Prelude.{◌≡◌, ◌≤◌, IfOk};
+ghost use Rattle.std.specs.Prelude.{◌≡◌, ◌⊎◌, Err, IfOk, IfErr, OnOk};
 ghost use Rattle.svsm_steps.specs.State.{rmp_rows};
 ghost use Rattle.svsm_steps.specs.Machine.{state_after};
 ghost use Rattle.svsm_steps.specs.Image.{constants_of, booted};
@@ -7,9 +7,11 @@ ghost use Rattle.svsm_steps.specs.Safe.{AlwaysSafe};
 ghost use Rattle.svsm_steps.specs.Sound.{IsSound};
 ghost use Rattle.svsm_steps.specs.Requests.{AreScripts};
 ghost use Rattle.svsm_calls.specs.Run.{IsRun};
+ghost use Rattle.boot_core.specs.Boots.{BootEnds, Boots};
 
 use crate::waves::run_all;
-use crate::{Recorder, Turn};
+use crate::{InTurn, Turn};
+use boot_core::BootError;
 use std::alloc::Global;
 use std::sync::Wait;
 use svsm_steps::{CoreRun, Entry, Gate};
@@ -23,29 +25,29 @@ pub struct ImageRun {
     pub rows: Sequence<RmpRow>,
 }
 
-/// Boots the machine of an image, and runs the scripts on its cores: the i-th script is that of core i, and a core without one
-/// has no requests. Each step passes the gate first.
+/// Boots an image against the host of its lines, and runs the scripts on its cores: the i-th script is that of core i, and a core
+/// without one has no requests. Each step passes the gate first. An error is that of the boot, or want of memory.
 pub fn run_image<R: Wait, G: Gate>(
     rt: &R,
     alloc: Global,
     image: &Image,
     scripts: &[Sequence<Request>],
     gate: &G,
-) -> Result<ImageRun, NoMemory>
+) -> Result<ImageRun, BootError>
     requires sound { IsSound image.now }
     requires scripts { AreScripts scripts.now }
+    ensures boots { OnOk result (Boots image.now) }
     ensures run { IfOk result (λ run. IsRun image.now scripts.now run.trace run.cores) }
     ensures safe { IfOk result (λ run. AlwaysSafe (constants_of image.now) (booted image.now) run.trace) }
     ensures rows { IfOk result (λ run. run.rows
         ≡ rmp_rows image.now.regions (state_after (constants_of image.now) (booted image.now) run.trace)) }
+    ensures refused { IfErr result (λ error. (error ≡ BootError.NoMemory) ⊎ BootEnds image.now (Err error)) }
 {
-    let history = Recorder::of_image(alloc, image)?;
-    let mut turn = Turn::new(gate, history);
-    let cores = run_all(rt, alloc, &mut turn, image, scripts)?;
-    let history = turn.into_history();
-    let rows = history.page_rows(alloc)?;
+    let places = InTurn::of_image(alloc, image)?;
+    let (places, cores) = run_all(rt, alloc, Turn::new(gate, places), image, scripts)?;
+    let rows = places.page_rows(alloc)?;
     Ok(ImageRun {
-        trace: history.into_trace(),
+        trace: places.into_trace()?,
         cores: Sequence::from_vec(cores),
         rows: Sequence::from_vec(rows),
     })

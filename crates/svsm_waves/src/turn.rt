@@ -45,6 +45,26 @@ impl<'a, H: History, G: Gate> Turn<'a, H, G> {
         history
     }
 
+    /// The wave has ended.
+    pub(crate) fn next_wave(self, alloc: Global) -> Result<Turn<'a, H, G>, NoMemory>
+        ensures trace { IfOk result (λ turn. H.trace turn.history ≡ H.trace self.entry.history) }
+        ensures image { IfOk result (λ turn. H.image turn.history ≡ H.image self.entry.history) }
+    {
+        let Turn {
+            gate,
+            history,
+            core,
+            made,
+        } = self;
+        let history = history.next_wave(alloc)?;
+        Ok(Turn {
+            gate,
+            history,
+            core,
+            made,
+        })
+    }
+
     /// The turn goes to a core, which made so many steps.
     pub(crate) fn give(&mut self, core: u32, made: u64)
         requires { made ≡ length (made_by core (H.trace self.old.history)) }

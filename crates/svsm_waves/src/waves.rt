@@ -33,32 +33,34 @@ fn unstarted(alloc: Global, image: &Image) -> Result<Vec<CoreRun>, NoMemory>
     Ok(runs)
 }
 
-/// Runs all cores, in waves: what each gave, in the order of the core lines.
+/// Runs all cores, in waves: the history at the end, and what each core gave, in the order of the core lines.
 pub fn run_all<R: Wait, H: History, G: Gate>(
     rt: &R,
     alloc: Global,
-    turn: &mut Turn<'_, H, G>,
+    first: Turn<'_, H, G>,
     image: &Image,
     scripts: &[Sequence<Request>],
-) -> Result<Vec<CoreRun>, NoMemory>
-    requires image { H.image turn.old.history ≡ image.now }
+) -> Result<(H, Vec<CoreRun>), NoMemory>
+    requires image { H.image first.history ≡ image.now }
     requires sound { IsSound image.now }
     requires scripts { AreScripts scripts.now }
-    requires fresh { H.trace turn.old.history ≡ [] }
-    ensures run { IfOk result (λ runs. IsRun image.now scripts.now (H.trace turn.new.history) runs.items) }
-    ensures image { H.image turn.new.history ≡ image.now }
+    requires fresh { H.trace first.history ≡ [] }
+    ensures run { IfOk result (λ ended. IsRun image.now scripts.now (H.trace ended.0) ended.1.items) }
+    ensures image { IfOk result (λ ended. H.image ended.0 ≡ image.now) }
 {
+    let mut turn = first;
     let mut runs = unstarted(alloc, image)?;
     let mut ran = Vec::new(alloc);
     'waves: loop {
         let cores = next_cores(alloc, image, &ran, turn.history.rows())?;
         let wave = cores.as_slice();
         if wave.is_empty() {
-            return Ok(runs);
+            return Ok((turn.into_history(), runs));
         }
-        let callers = enter_all(alloc, turn, image, wave)?;
+        let callers = enter_all(alloc, &mut turn, image, wave)?;
         let inside = callers.as_slice();
-        run_entered(rt, alloc, turn, image, scripts, inside, &mut runs)?;
+        run_entered(rt, alloc, &mut turn, image, scripts, inside, &mut runs)?;
         ran.extend_from_slice(wave)?;
+        turn = turn.next_wave(alloc)?;
     }
 }

@@ -45,9 +45,6 @@ fn an_image_is_refused_at_its_end(rt: HostRuntime) -> Result<(), Fail> {
         ("", "core"),
         ("core 0x0 parked\nlarge 0x0\n", "large"),
         ("core 0x0 parked\naccept 0x5 0x1\n", "accept"),
-        ("core 0x0 parked\naccept 0x6 0x1\n", "unbuilt"),
-        ("core 0x0 parked\nfault 0x0 0x0\n", "unbuilt"),
-        ("core 0x0 parked\nhost step 0x1\n", "unbuilt"),
     ];
     for (lines, refused) in texts {
         let text = format!(in alloc; "{HEAD}{GHCB}{lines}")?;
