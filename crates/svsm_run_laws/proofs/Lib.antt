@@ -42,3 +42,5 @@ pub mod TwoWaves
 pub mod SoundExamples
 pub mod StepFacts
 pub mod FalseLaws
+pub mod OwnRows
+pub mod Replies

@@ -15,6 +15,8 @@ ghost use Rattle.svsm_run_laws.specs.FalseLaws.{OnceWhateverOthersWrite, Reserve
 ghost use Rattle.svsm_run_laws.specs.Formed.{RunsAreFormed, RunsAreSafe, RunsStayConsistent};
 ghost use Rattle.svsm_run_laws.specs.Kept.{EveryPartKeeps, EveryRunKeeps, NoAnswerIsOdd, RowsStayApart, RunsKeepPartition};
 ghost use Rattle.svsm_run_laws.specs.Balances.{BootedIsAccounted, CallsKeepHands, EachRowBalances};
+ghost use Rattle.svsm_run_laws.specs.OwnRows.{CoresInGuestsAreEntered, ReservedRowsAreOfCores};
+ghost use Rattle.svsm_run_laws.specs.Replies.{DeletesSucceed, NoStepIsOdd, OwnStepsAreDone, WithdrawalsRelease};
 ghost use Rattle.svsm_run_laws.specs.StepFacts.{BlockFacts, BootFacts, RegionFacts, RegistryFacts, WordFacts};
 ghost use Rattle.svsm_run_laws.specs.TwoCalls.{GoesOn};
 ghost use Rattle.svsm_run_laws.specs.TwoCores.{two_cores, two_entries, two_image, two_scripts};
@@ -51,7 +53,26 @@ pub fn rows_stay_apart()
     ensures { RowsStayApart }
 {}
 
-/// The three laws above with what they stand on: the accounts of all pages, and of what each core holds.
+/// The Reserved rows are those of the cores between a Reserve that was Done and its Commit or Cancel, before and after each entry.
+pub fn reserved_rows_are_of_cores()
+    ensures { ReservedRowsAreOfCores }
+{}
+
+/// A core between its Enter and its Leave has just one Entered row with its APIC id, before and after each entry.
+pub fn cores_in_guests_are_entered()
+    ensures { CoresInGuestsAreEntered }
+{}
+
+/// Of the replies: no step of a core has an odd answer; in whole calls, steps on a core's own pages and rows are Done, a deletion
+/// that retired its row succeeds, and a withdrawal that fails does not fail by a Release.
+pub fn replies_are_never_odd()
+    ensures none { NoStepIsOdd }
+    ensures own { OwnStepsAreDone }
+    ensures deletes { DeletesSucceed }
+    ensures withdrawals { WithdrawalsRelease }
+{}
+
+/// The laws above on every run with what they stand on: the accounts of all pages, and of what each core holds.
 pub fn every_run_keeps()
     ensures { EveryRunKeeps }
 {}
