@@ -98,7 +98,7 @@ entered_row page (Seen p caa) = refl
 entered_row page _ = refl
 
 -- a Commit or a Cancel that is not odd is Done
-sure_by : (b : Bool) (step : Step) (answer : Answer) → is_odd step Unknown ≡ true
+pub sure_by : (b : Bool) (step : Step) (answer : Answer) → is_odd step Unknown ≡ true
     → answer ≡ unwrap_or (if b then None else Some Unknown) Done → is_odd step answer ≡ false → answer ≡ Done
 sure_by true step answer sure gives odd = gives
 sure_by false step answer sure gives odd =

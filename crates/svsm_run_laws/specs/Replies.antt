@@ -13,7 +13,7 @@ use Rattle.svsm_steps.specs.declared.call.Caller.{Caller}
 use Rattle.svsm_steps.specs.declared.call.Do.{Do}
 use Rattle.svsm_steps.specs.declared.call.Do.TheVariants.{Reply}
 use Rattle.svsm_steps.specs.declared.outcome.CoreRun.{CoreRun}
-use Rattle.svsm_steps.specs.Odd.{is_odd}
+use Rattle.svsm_steps.specs.Odd.{is_sure, is_odd}
 use Rattle.svsm_steps.specs.Made.{Made, made_by}
 use Rattle.svsm_steps.specs.Sound.{IsSound}
 use Rattle.svsm_calls.specs.Codes.{success}
@@ -34,6 +34,13 @@ abbrev pub NoStepIsOdd : Type 0
 NoStepIsOdd =
     (image : Image) (scripts : List (List Request)) (entries : List Entry) (cores : List CoreRun)
     → IsSound image → IsRun image scripts entries cores → (core : ℕ) → NoneIsOdd (pairs_of (made_by core entries))
+
+-- In each run, Commit, Cancel, Remap and Leave are Done: the row that they go by is there.
+abbrev pub SureStepsAreDone : Type 0
+SureStepsAreDone =
+    (image : Image) (scripts : List (List Request)) (entries : List Entry) (cores : List CoreRun)
+    → IsSound image → IsRun image scripts entries cores
+    → (entry : Entry) → Contains entries entry → is_sure entry.step ≡ true → entry.answer ≡ Done
 
 -- a whole call that a core made: its steps stand together in what the core made
 pub record IsCallOf (core : ℕ) (entries : List Entry) (pend : Bool) (caller : Caller) (regs : Regs) (steps : List Made) (polls : List Bool)

@@ -16,7 +16,7 @@ ghost use Rattle.svsm_run_laws.specs.Formed.{RunsAreFormed, RunsAreSafe, RunsSta
 ghost use Rattle.svsm_run_laws.specs.Kept.{EveryPartKeeps, EveryRunKeeps, NoAnswerIsOdd, RowsStayApart, RunsKeepPartition};
 ghost use Rattle.svsm_run_laws.specs.Balances.{BootedIsAccounted, CallsKeepHands, EachRowBalances};
 ghost use Rattle.svsm_run_laws.specs.OwnRows.{CoresInGuestsAreEntered, ReservedRowsAreOfCores};
-ghost use Rattle.svsm_run_laws.specs.Replies.{DeletesSucceed, NoStepIsOdd, OwnStepsAreDone, WithdrawalsRelease};
+ghost use Rattle.svsm_run_laws.specs.Replies.{DeletesSucceed, NoStepIsOdd, OwnStepsAreDone, SureStepsAreDone, WithdrawalsRelease};
 ghost use Rattle.svsm_run_laws.specs.StepFacts.{BlockFacts, BootFacts, RegionFacts, RegistryFacts, WordFacts};
 ghost use Rattle.svsm_run_laws.specs.TwoCalls.{GoesOn};
 ghost use Rattle.svsm_run_laws.specs.TwoCores.{two_cores, two_entries, two_image, two_scripts};
@@ -63,10 +63,11 @@ pub fn cores_in_guests_are_entered()
     ensures { CoresInGuestsAreEntered }
 {}
 
-/// Of the replies: no step of a core has an odd answer; in whole calls, steps on a core's own pages and rows are Done, a deletion
-/// that retired its row succeeds, and a withdrawal that fails does not fail by a Release.
+/// Of the replies: no step of a core has an odd answer, and Commit, Cancel, Remap and Leave are Done. In whole calls the steps on a
+/// core's own pages and rows are Done, a deletion that retired its row succeeds, and a withdrawal that fails does not fail by a Release.
 pub fn replies_are_never_odd()
     ensures none { NoStepIsOdd }
+    ensures sure { SureStepsAreDone }
     ensures own { OwnStepsAreDone }
     ensures deletes { DeletesSucceed }
     ensures withdrawals { WithdrawalsRelease }
