@@ -1,7 +1,6 @@
 //! The places of a run behind a lock each, where two cores step at the same time.
 //!
-//! `run_both` takes the places and a list of steps for each core. `reopen_all` takes the places that it gives back, and merges
-//! their logs into the one history.
+//! `run_both` takes the places and a list of steps for each core, and gives the places back with their part of the one history.
 #![tactic(auto)]
 
 mod both;
