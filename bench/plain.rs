@@ -1,9 +1,11 @@
-//! The same job in plain Rust, without contracts and without threads: what the verified program is measured against. The cores of a wave
-//! run one after another.
+//! The same job in plain Rust, without contracts: what the verified program is measured against. The cores of a wave run at the same
+//! time, over one lock for each place.
 //! Build: rustc --edition 2021 -O bench/plain.rs -o /tmp/plain
 use std::collections::HashMap;
 use std::fmt::Write as _;
 use std::io::Write as _;
+use std::sync::atomic::{AtomicU64, Ordering};
+use std::sync::{Mutex, MutexGuard};
 
 const LIMIT: u64 = 16_777_216;
 
@@ -233,30 +235,38 @@ enum Step {
     Push(u64, bool), Pop(bool), Reserve(u64, u64, u64), Commit(u64), Cancel(u64), Retire(u64), Remap(u64, u64), Enter(u64), Leave(u64),
 }
 
-struct Entry { core: u64, place: u64, step: Step, answer: Answer }
+#[derive(Clone, Copy)]
+struct Entry { ticket: u64, core: u64, place: u64, step: Step, answer: Answer }
 
-struct Machine {
-    regions: Vec<Region>, words: HashMap<u64, u64>, pool: Vec<(u64, bool)>, rows: Vec<Row>, apics: Vec<u64>, history: Vec<Entry>,
-}
+// a region, the pool or the rows, with its log
+struct Place { region: Region, words: HashMap<u64, u64>, pool: Vec<(u64, bool)>, rows: Vec<Row>, apics: Vec<u64>, log: Vec<Entry> }
+
+// the places, each behind a lock, and the word that gives out tickets
+struct Machine { places: Vec<Mutex<Place>>, tickets: AtomicU64 }
 
 struct Faulted;
 
+fn regions_of(image: &Image) -> Vec<Region> {
+    let mut regions: Vec<Region> = (0..image.regions)
+        .map(|number| Region {
+            pages: (512 * number..512 * (number + 1)).map(|page| match image.table[page as usize] {
+                None => FRESH,
+                Some((owner, state, rights)) => Page {
+                    owner, recorded: state == 2, assigned: state > 0, validated: state == 2,
+                    rights: [(rights & 15) as u8, (rights >> 4 & 15) as u8, (rights >> 8) as u8], vmsa: state == 2 && owner == Owner::Vmsa,
+                },
+            }).collect(),
+            large: false, made: 0, faults: vec![],
+        })
+        .collect();
+    for region in &image.large { regions[*region as usize].large = true }
+    for (region, number) in &image.faults { regions[*region as usize].faults.push(*number) }
+    regions
+}
+
 impl Machine {
     fn new(image: &Image) -> Machine {
-        let mut regions: Vec<Region> = (0..image.regions)
-            .map(|number| Region {
-                pages: (512 * number..512 * (number + 1)).map(|page| match image.table[page as usize] {
-                    None => FRESH,
-                    Some((owner, state, rights)) => Page {
-                        owner, recorded: state == 2, assigned: state > 0, validated: state == 2,
-                        rights: [(rights & 15) as u8, (rights >> 4 & 15) as u8, (rights >> 8) as u8], vmsa: state == 2 && owner == Owner::Vmsa,
-                    },
-                }).collect(),
-                large: false, made: 0, faults: vec![],
-            })
-            .collect();
-        for region in &image.large { regions[*region as usize].large = true }
-        for (region, number) in &image.faults { regions[*region as usize].faults.push(*number) }
+        let regions = regions_of(image);
         let mut pool = vec![];
         for (number, region) in regions.iter().enumerate() {
             if region.large && region.pages[0].owner == Owner::Pool { pool.push((512 * number as u64, true)); continue }
@@ -265,28 +275,65 @@ impl Machine {
             }
         }
         let rows = image.cores.iter().filter_map(|c| c.1.map(|s| Row { apic: c.0, page: s.0, caa: s.1, state: RowState::Ready })).collect();
-        let words = image.words.iter().copied().collect();
-        Machine { regions, words, pool, rows, apics: image.cores.iter().map(|c| c.0).collect(), history: vec![] }
+        let none = || Region { pages: vec![], large: false, made: 0, faults: vec![] };
+        let place = |region| Place { region, words: HashMap::new(), pool: vec![], rows: vec![], apics: vec![], log: vec![] };
+        let mut places: Vec<Place> = regions.into_iter().map(place).collect();
+        for (gpa, word) in &image.words { places[(gpa / 4096 / 512) as usize].words.insert(*gpa, *word); }
+        places.push(Place { pool, ..place(none()) });
+        places.push(Place { rows, apics: image.cores.iter().map(|c| c.0).collect(), ..place(none()) });
+        Machine { places: places.into_iter().map(Mutex::new).collect(), tickets: AtomicU64::new(0) }
     }
 
-    fn page(&mut self, page: u64) -> &mut Page { &mut self.regions[page as usize / 512].pages[page as usize % 512] }
+    fn region(&self, page: u64) -> MutexGuard<'_, Place> { self.places[page as usize / 512].lock().unwrap() }
+
+    // a step of a core: its ticket is drawn while its place is held
+    fn step(&self, core: u64, step: Step) -> (u64, Answer) {
+        let regions = self.places.len() as u64 - 2;
+        let number = match step {
+            Step::Push(..) | Step::Pop(_) => regions,
+            Step::Reserve(..) | Step::Commit(_) | Step::Cancel(_) | Step::Retire(_) | Step::Remap(..) | Step::Enter(_) | Step::Leave(_) => regions + 1,
+            Step::Write(_, g, _) | Step::Pend(_, g) | Step::Read(_, g) | Step::Take(_, g) | Step::Load(_, g) | Step::Next(_, g, _) | Step::Entry(_, g, _)
+            | Step::Avail(_, g, _) | Step::Caa(_, g) => g / 4096 / 512,
+            Step::Adjust(_, p, ..) | Step::Share(p) | Step::Assign(p) | Step::Validate(_, p, _) | Step::Invalidate(_, p, _) | Step::Deposit(_, p, _)
+            | Step::Release(_, p, _) | Step::Vmsa(_, p, _) | Step::Drop(_, p) => p / 512,
+        };
+        let mut place = self.places[number as usize].lock().unwrap();
+        let answer = place.act(step);
+        let ticket = self.tickets.fetch_add(1, Ordering::SeqCst);
+        place.log.push(Entry { ticket, core, place: number, step, answer });
+        (ticket, answer)
+    }
+
+    // all logs in one, in the order of the tickets
+    fn history(&mut self) -> Vec<Entry> {
+        let mut all = vec![];
+        for place in &mut self.places { all.append(&mut place.get_mut().unwrap().log) }
+        all.sort_by_key(|entry| entry.ticket);
+        all
+    }
+
+    fn rows(&self) -> MutexGuard<'_, Place> { self.places[self.places.len() - 1].lock().unwrap() }
+}
+
+impl Place {
+    fn page(&mut self, page: u64) -> &mut Page { &mut self.region.pages[page as usize % 512] }
 
     fn word(&self, gpa: u64) -> u64 { self.words.get(&gpa).copied().unwrap_or(0) }
 
     fn span(&mut self, page: u64, large: bool) -> &mut [Page] {
-        let region = &mut self.regions[page as usize / 512];
+        let region = &mut self.region;
         if large { &mut region.pages } else { &mut region.pages[page as usize % 512..page as usize % 512 + 1] }
     }
 
     fn assign(&mut self, page: u64, large: bool, on: bool) {
-        self.regions[page as usize / 512].large = large;
+        self.region.large = large;
         for p in self.span(page, large) { (p.assigned, p.validated, p.rights, p.vmsa) = (on, false, [0; 3], false) }
     }
 
     // operations of the platform: numbered, and they may fault
 
-    fn begin(&mut self, page: u64, faults: bool) -> Result<(), Faulted> {
-        let region = &mut self.regions[page as usize / 512];
+    fn begin(&mut self, faults: bool) -> Result<(), Faulted> {
+        let region = &mut self.region;
         let listed = region.faults.contains(&region.made);
         region.made += 1;
         if faults || listed { Err(Faulted) } else { Ok(()) }
@@ -296,27 +343,27 @@ impl Machine {
 
     fn read(&mut self, gpa: u64) -> Result<u64, Faulted> {
         let faults = !self.usable(gpa / 4096, false);
-        self.begin(gpa / 4096, faults)?;
+        self.begin(faults)?;
         Ok(self.word(gpa))
     }
 
     fn write(&mut self, gpa: u64, word: u64) -> Result<(), Faulted> {
         let faults = !self.usable(gpa / 4096, false);
-        self.begin(gpa / 4096, faults)?;
+        self.begin(faults)?;
         self.words.insert(gpa, word);
         Ok(())
     }
 
     fn clear(&mut self, page: u64, large: bool) -> Result<(), Faulted> {
         let faults = !self.usable(page, large);
-        self.begin(page, faults)?;
+        self.begin(faults)?;
         if large { self.words.retain(|gpa, _| gpa / 4096 / 512 != page / 512) } else { for i in 0..512 { self.words.remove(&(page * 4096 + 8 * i)); } }
         Ok(())
     }
 
     fn pvalidate(&mut self, page: u64, large: bool, on: bool) -> Result<Option<Answer>, Faulted> {
-        self.begin(page, false)?;
-        let region = &mut self.regions[page as usize / 512];
+        self.begin(false)?;
+        let region = &mut self.region;
         if large && !region.large { return Ok(Some(Answer::Hw(6))) }
         if !large { region.large = false }
         let span = self.span(page, large);
@@ -327,9 +374,9 @@ impl Machine {
     }
 
     fn rmpadjust(&mut self, page: u64, large: bool, vmpl: usize, right: u8, vmsa: bool) -> Result<(), Faulted> {
-        let faults = large && !self.regions[page as usize / 512].large || !self.usable(page, large);
-        self.begin(page, faults)?;
-        if !large { self.regions[page as usize / 512].large = false }
+        let faults = large && !self.region.large || !self.usable(page, large);
+        self.begin(faults)?;
+        if !large { self.region.large = false }
         for p in self.span(page, large) { p.rights[vmpl - 1] = right; p.vmsa = vmsa }
         Ok(())
     }
@@ -362,7 +409,7 @@ impl Machine {
                 let p = *self.page(page);
                 let right = u64::from(p.rights[v as usize - 1]);
                 if !(p.assigned && p.validated && right != 0 && target > v && target <= 3 && mask <= 15 && mask & right == mask) { return Ok(Answer::Denied) }
-                self.regions[page as usize / 512].large = false;
+                self.region.large = false;
                 self.page(page).rights[target as usize - 1] = mask as u8;
                 Answer::Done
             }
@@ -433,7 +480,7 @@ impl Machine {
 
     fn refused(&mut self, page: u64, large: bool) -> Option<Answer> {
         if self.span(page, large).iter().any(|p| p.owner != Owner::Guest) { return Some(Answer::Refused) }
-        (large && !self.regions[page as usize / 512].large).then_some(Answer::Hw(6))
+        (large && !self.region.large).then_some(Answer::Hw(6))
     }
 
     fn rows_step(&mut self, step: Step) -> Answer {
@@ -464,39 +511,31 @@ impl Machine {
         Answer::Done
     }
 
-    fn step(&mut self, core: u64, step: Step) -> Answer {
-        let regions = self.regions.len() as u64;
-        let mut done = 0;
-        let (place, answer) = match step {
-            Step::Push(page, large) => { self.pool.push((page, large)); (regions, Answer::Held(self.pool.len() as u64)) }
-            Step::Pop(large) => (regions, match self.pool.iter().rposition(|b| b.1 == large) {
+    fn act(&mut self, step: Step) -> Answer {
+        match step {
+            Step::Push(page, large) => { self.pool.push((page, large)); Answer::Held(self.pool.len() as u64) }
+            Step::Pop(large) => match self.pool.iter().rposition(|b| b.1 == large) {
                 Some(at) => { let page = self.pool.remove(at).0; Answer::Block(page, self.pool.len() as u64) }
                 None => Answer::Empty(self.pool.len() as u64),
-            }),
-            Step::Reserve(..) | Step::Commit(_) | Step::Cancel(_) | Step::Retire(_) | Step::Remap(..) | Step::Enter(_) | Step::Leave(_) => (regions + 1, self.rows_step(step)),
-            Step::Write(_, g, _) | Step::Pend(_, g) | Step::Read(_, g) | Step::Take(_, g) | Step::Load(_, g) | Step::Next(_, g, _) | Step::Entry(_, g, _)
-            | Step::Avail(_, g, _) | Step::Caa(_, g) => (g / 4096 / 512, self.region_step(step, &mut done).unwrap_or(Answer::Fault(u64::MAX))),
-            Step::Adjust(_, p, ..) | Step::Share(p) | Step::Assign(p) | Step::Validate(_, p, _) | Step::Invalidate(_, p, _) | Step::Deposit(_, p, _)
-            | Step::Release(_, p, _) | Step::Vmsa(_, p, _) | Step::Drop(_, p) => (p / 512, self.region_step(step, &mut done).unwrap_or(Answer::Fault(u64::MAX))),
-        };
-        let answer = if answer == Answer::Fault(u64::MAX) { Answer::Fault(done) } else { answer };
-        self.history.push(Entry { core, place, step, answer });
-        answer
+            },
+            Step::Reserve(..) | Step::Commit(_) | Step::Cancel(_) | Step::Retire(_) | Step::Remap(..) | Step::Enter(_) | Step::Leave(_) => self.rows_step(step),
+            _ => { let mut done = 0; self.region_step(step, &mut done).unwrap_or(Answer::Fault(done)) }
+        }
     }
 }
 
 // CALLS
 
-enum Stop { Faulted, Host(u64, u64) }
+enum Stop { Faulted(u64), Host(u64, u64) }
 
-struct Core<'a> { machine: &'a mut Machine, image: &'a Image, core: u64, apic: u64, vmpl: u64, caa: u64, poll: u64, polls: u64, runs: u64 }
+struct Core<'a> { machine: &'a Machine, image: &'a Image, core: u64, apic: u64, vmpl: u64, caa: u64, poll: u64, polls: u64, runs: u64 }
 
 const ADDRESS: u64 = 0x8000_0003;
 const PARAMETER: u64 = 0x8000_0005;
 
 impl Core<'_> {
     fn step(&mut self, step: Step) -> Result<Answer, Stop> {
-        match self.machine.step(self.core, step) { Answer::Fault(_) => Err(Stop::Faulted), answer => Ok(answer) }
+        match self.machine.step(self.core, step) { (ticket, Answer::Fault(_)) => Err(Stop::Faulted(ticket)), (_, answer) => Ok(answer) }
     }
 
     fn address(&self, gpa: u64, unit: u64) -> Result<(), u64> {
@@ -673,13 +712,13 @@ impl Host0<'_> {
     }
 }
 
-fn boot(image: &Image, machine: &mut Machine) -> Result<(), String> {
+fn boot(image: &Image, machine: &Machine) -> Result<(), String> {
     let mut host = Host0 { image, exits: 0 };
     let msr = |host: &Host0, sent: u64, test: &dyn Fn(u64) -> bool| { let got = host.msr(sent); if test(got) { Ok(()) } else { Err(format!("msr {sent:#x} {got:#x}")) } };
     msr(&host, 0x2, &|g| g & 0xfff == 1 && g >> 48 >= 2 && g >> 32 & 0xffff <= 2)?;
     msr(&host, 0x80, &|g| g & 0xfff == 0x81 && g >> 12 & 0x21 == 0x21)?;
     msr(&host, 0x20_0000_0000_0014 | image.ghcb << 12, &|g| g & 0xfff == 0x15 && g >> 32 == 0)?;
-    machine.assign(image.ghcb, false, false);
+    machine.region(image.ghcb).assign(image.ghcb, false, false);
     let page = image.ghcb;
     msr(&host, page << 12 | 0x12, &|g| g == (page << 12 | 0x13))?;
     let mut all = vec![];
@@ -707,12 +746,13 @@ fn boot(image: &Image, machine: &mut Machine) -> Result<(), String> {
             cur = got;
         }
         for (page, large) in batch {
-            machine.assign(*page, *large, true);
+            let mut place = machine.region(*page);
+            place.assign(*page, *large, true);
             let mut accept = || -> Result<(), Faulted> {
-                machine.pvalidate(*page, *large, true)?;
-                machine.clear(*page, *large)?;
-                machine.record(*page, *large, true);
-                machine.grant(*page, *large, image.vmpl, &mut 0)
+                place.pvalidate(*page, *large, true)?;
+                place.clear(*page, *large)?;
+                place.record(*page, *large, true);
+                place.grant(*page, *large, image.vmpl, &mut 0)
             };
             if accept().is_err() { return Err(format!("fault {page:#x}")) }
         }
@@ -777,23 +817,28 @@ fn put_step(text: &mut String, step: Step) {
     .unwrap()
 }
 
-fn put_report(machine: &Machine, cores: &[(Vec<String>, String)], brief: bool) -> String {
+// the pages, each with the mark of its region
+fn pages_of(machine: &Machine) -> Vec<(Page, bool)> {
+    machine.places.iter().flat_map(|p| { let p = p.lock().unwrap(); p.region.pages.iter().map(|page| (*page, p.region.large)).collect::<Vec<_>>() }).collect()
+}
+
+fn put_report(machine: &Machine, history: &[Entry], cores: &[(Vec<String>, String)], brief: bool) -> String {
     let mut text = String::from("svsm-run 1\n");
     for (core, (outcomes, end)) in cores.iter().enumerate() {
         for (request, outcome) in outcomes.iter().enumerate() { writeln!(text, "core {core:#x} request {request:#x} {outcome}").unwrap() }
         writeln!(text, "core {core:#x} {end}").unwrap();
     }
     if !brief {
-        writeln!(text, "history {:#x}", machine.history.len()).unwrap();
-        for (ticket, entry) in machine.history.iter().enumerate() {
-            write!(text, "step {ticket:#x} {:#x} {:#x} ", entry.core, entry.place).unwrap();
+        writeln!(text, "history {:#x}", history.len()).unwrap();
+        for entry in history {
+            write!(text, "step {:#x} {:#x} {:#x} ", entry.ticket, entry.core, entry.place).unwrap();
             put_step(&mut text, entry.step);
             text.push_str(" -> ");
             put_answer(&mut text, entry.answer);
             text.push('\n');
         }
     }
-    let pages: Vec<(Page, bool)> = machine.regions.iter().flat_map(|r| r.pages.iter().map(|p| (*p, r.large))).collect();
+    let pages = pages_of(machine);
     let mut first = 0;
     for at in 1..=pages.len() {
         if at == pages.len() || pages[at] != pages[first] {
@@ -817,25 +862,38 @@ fn refuse(status: i32, line: String) -> ! {
     std::process::exit(status)
 }
 
-fn words_of(words: &[String]) -> Option<(String, Vec<String>, bool)> {
+enum Command { Run(String, Vec<String>, bool), Gen(u64, u64, u64) }
+
+fn words_of(words: &[String]) -> Option<Command> {
     let (first, later) = words.split_first()?;
-    if first != "run" { return None }
-    let (mut brief, mut ended, mut names) = (false, false, vec![]);
+    let (mut flags, mut ended, mut names) = (vec![], false, vec![]);
     for word in later {
-        if !ended && word == "--" { ended = true }
-        else if !ended && word.starts_with('-') { if word != "--brief" || brief { return None } brief = true }
-        else { names.push(word.clone()) }
+        if !ended && word == "--" { ended = true } else if !ended && word.starts_with('-') { flags.push(word.as_str()) } else { names.push(word.clone()) }
     }
-    if !(2..=17).contains(&names.len()) { return None }
-    let image = names.remove(0);
-    Some((image, names, brief))
+    match first.as_str() {
+        "run" if flags.is_empty() || flags == ["--brief"] => {
+            if !(2..=17).contains(&names.len()) { return None }
+            let image = names.remove(0);
+            Some(Command::Run(image, names, !flags.is_empty()))
+        }
+        "gen" if flags.is_empty() && names.len() == 3 => {
+            let number = |at: usize, least: u128, most: u128| {
+                let word: &String = &names[at];
+                if word.is_empty() || !word.bytes().all(|b| b.is_ascii_digit()) { return None }
+                let digits = word.trim_start_matches('0');
+                if digits.len() > 20 { return None }
+                let value = if digits.is_empty() { 0 } else { digits.parse::<u128>().ok()? };
+                (least..=most).contains(&value).then_some(value as u64)
+            };
+            Some(Command::Gen(number(0, 1, 16)?, number(1, 1, 128)?, number(2, 0, u64::MAX as u128)?))
+        }
+        _ => None,
+    }
 }
 
-fn main() {
-    let words: Vec<String> = std::env::args().skip(1).collect();
-    let Some((image, scripts, brief)) = words_of(&words) else { refuse(2, "words".to_string()) };
+fn load_all(image: &str, scripts: &[String]) -> (Image, Vec<Vec<Record>>) {
     let load = |name: &str, number: u64| std::fs::read(name).unwrap_or_else(|_| refuse(5, format!("read {number:#x}")));
-    let bytes = load(&image, 0);
+    let bytes = load(image, 0);
     if bytes.len() as u64 > LIMIT { refuse(4, "image line 0x0 long".to_string()) }
     let image = read_image(&bytes).unwrap_or_else(|(line, kind)| refuse(4, format!("image line {line:#x} {kind}")));
     if scripts.len() > image.cores.len() { refuse(4, format!("script {:#x} at 0x0 core", image.cores.len())) }
@@ -845,31 +903,84 @@ fn main() {
         if bytes.len() as u64 > LIMIT { refuse(4, format!("script {number:#x} at 0x0 long")) }
         requests.push(read_script(&bytes).unwrap_or_else(|(at, kind)| refuse(4, format!("script {number:#x} at {at:#x} {kind}"))));
     }
-    let mut machine = Machine::new(&image);
-    if let Err(line) = boot(&image, &mut machine) { refuse(7, format!("boot {line}")) }
+    (image, requests)
+}
+
+// the generated image, as a text that is read like any other, and the scripts
+fn generated(cores: u64, requests: u64, number: u64) -> (Image, Vec<Vec<Record>>) {
+    let mut text = format!("svsm-image 1\nregions {:#x}\nvmpl 0x2\nfeatures 0x1\nghcb 0x5\nrange 0x0 0x5 module valid 0x0\nrange 0x5 0x1 module assigned 0x0\nrange 0x6 0xa module valid 0x0\n", cores + 1);
+    let mut scripts = vec![];
+    for i in 0..cores {
+        let b = 512 * (i + 1);
+        writeln!(text, "range {:#x} 0x1 vmsa valid 0x0\nrange {b:#x} 0x10 guest valid 0xf0\nrange {:#x} 0x1f0 guest assigned 0x0", 0x10 + i, b + 16).unwrap();
+        writeln!(text, "core {i:#x} vmsa {:#x} caa {:#x}", (0x10 + i) * 4096, b * 4096).unwrap();
+        let list = (b + 1) * 4096;
+        let mut x = number.wrapping_add(i);
+        let write = |a: u64, word: u64| Record { kind: 1, a, b: word, c: 2, d: 0, e: 0 };
+        scripts.push((0..requests).map(|k| match k % 3 {
+            0 => write(list, 1),
+            1 => {
+                x = x.wrapping_mul(6364136223846793005).wrapping_add(1442695040888963407);
+                write(list + 8, (b + 16 + (x >> 33) % 496) * 4096 + 4 * (x >> 20 & 1) + 8)
+            }
+            _ => Record { kind: 2, a: 1, b: list, c: 0, d: 0, e: 0 },
+        }).collect());
+    }
+    (read_image(text.as_bytes()).unwrap_or_else(|_| unreachable!()), scripts)
+}
+
+// a core of a wave: its outcomes and its end, and whether it ended well
+fn run_core(machine: &Machine, image: &Image, core: u64, caa: u64, script: &[Record]) -> (Vec<String>, String, bool) {
+    let mut outcomes = vec![];
+    let mut core = Core { machine, image, core, apic: image.cores[core as usize].0, vmpl: image.vmpl, caa, poll: 0, polls: 0, runs: 0 };
+    let (end, well) = match core.run(script, &mut outcomes) {
+        Ok(()) => ("done".to_string(), true),
+        Err(Stop::Faulted(ticket)) => (format!("faulted {ticket:#x}"), false),
+        Err(Stop::Host(sent, got)) => (format!("host {sent:#x} {got:#x}"), false),
+    };
+    (outcomes, end, well)
+}
+
+// all waves; the cores of a wave run at the same time
+fn run_all(machine: &Machine, image: &Image, requests: &[Vec<Record>]) -> (Vec<(Vec<String>, String)>, bool) {
     let mut cores: Vec<(Vec<String>, String)> = image.cores.iter().map(|_| (vec![], "unstarted".to_string())).collect();
-    let mut ran = vec![false; cores.len()];
-    let mut failed = false;
+    let (mut ran, mut all_well) = (vec![false; cores.len()], true);
     loop {
-        let wave: Vec<usize> = (0..cores.len())
-            .filter(|c| !ran[*c] && machine.rows.iter().any(|r| r.apic == image.cores[*c].0 && r.state == RowState::Ready))
-            .collect();
-        if wave.is_empty() { break }
-        let entered: Vec<u64> = wave.iter().map(|c| match machine.step(*c as u64, Step::Enter(image.cores[*c].0)) { Answer::Seen(_, caa) => caa, _ => unreachable!() }).collect();
-        for (c, caa) in wave.iter().zip(entered) {
+        let ready = |c: &usize| machine.rows().rows.iter().any(|r| r.apic == image.cores[*c].0 && r.state == RowState::Ready);
+        let wave: Vec<usize> = (0..cores.len()).filter(|c| !ran[*c] && ready(c)).collect();
+        if wave.is_empty() { return (cores, all_well) }
+        let entered: Vec<u64> = wave.iter().map(|c| match machine.step(*c as u64, Step::Enter(image.cores[*c].0)).1 { Answer::Seen(_, caa) => caa, _ => unreachable!() }).collect();
+        let gave: Vec<_> = std::thread::scope(|scope| {
+            let threads: Vec<_> = wave.iter().zip(entered)
+                .map(|(c, caa)| scope.spawn(move || run_core(machine, image, *c as u64, caa, requests.get(*c).map_or(&[][..], |s| s))))
+                .collect();
+            threads.into_iter().map(|thread| thread.join().unwrap()).collect()
+        });
+        for (c, (outcomes, end, well)) in wave.iter().zip(gave) {
             ran[*c] = true;
-            let script = requests.get(*c).map_or(&[][..], |s| s);
-            let mut outcomes = vec![];
-            let mut core = Core { machine: &mut machine, image: &image, core: *c as u64, apic: image.cores[*c].0, vmpl: image.vmpl, caa, poll: 0, polls: 0, runs: 0 };
-            let end = match core.run(script, &mut outcomes) {
-                Ok(()) => "done".to_string(),
-                Err(Stop::Faulted) => { failed = true; format!("faulted {:#x}", machine.history.len() - 1) }
-                Err(Stop::Host(sent, got)) => { failed = true; format!("host {sent:#x} {got:#x}") }
-            };
+            all_well &= well;
             cores[*c] = (outcomes, end);
         }
     }
-    let text = put_report(&machine, &cores, brief);
+}
+
+fn main() {
+    let words: Vec<String> = std::env::args().skip(1).collect();
+    let Some(command) = words_of(&words) else { refuse(2, "words".to_string()) };
+    let (image, requests) = match &command { Command::Run(image, scripts, _) => load_all(image, scripts), Command::Gen(cores, requests, number) => generated(*cores, *requests, *number) };
+    let mut machine = Machine::new(&image);
+    if let Err(line) = boot(&image, &machine) { refuse(7, format!("boot {line}")) }
+    let (cores, all_well) = run_all(&machine, &image, &requests);
+    let history = machine.history();
+    let text = match command {
+        Command::Run(_, _, brief) => put_report(&machine, &history, &cores, brief),
+        Command::Gen(count, requests, number) => {
+            let replies: Vec<&String> = cores.iter().flat_map(|c| &c.0).filter(|o| o.starts_with("reply ")).collect();
+            let good = replies.iter().filter(|o| o.starts_with("reply 0x0 ")).count();
+            let valid = pages_of(&machine).iter().filter(|p| p.0.assigned && p.0.validated).count();
+            format!("svsm-gen 1\ncores {count:#x} requests {requests:#x} number {number:#x}\nsteps {:#x}\ncalls {:#x} success {good:#x}\nvalid {valid:#x}\nend\n", history.len(), replies.len())
+        }
+    };
     if std::io::stdout().write_all(text.as_bytes()).is_err() { refuse(6, "write".to_string()) }
-    std::process::exit(i32::from(failed))
+    std::process::exit(i32::from(!all_well))
 }

@@ -1,5 +1,10 @@
 pub mod RowLemmas
 pub mod TallyLemmas
+pub mod GenTally
+pub mod DecimalLemmas
 pub mod StepLemmas
+pub mod AboveLaw
 pub mod TakesLaw
+pub mod GenSteps
+pub mod GenLaw
 pub mod ReadLemmas

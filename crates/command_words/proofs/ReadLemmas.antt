@@ -7,7 +7,9 @@ use Rattle.clap.specs.Walk.{Row, Text, all_of, first_of, one_of, row_of, rows_of
 use Rattle.clap.specs.declared.parser.matches.Found.{Found as Entries}
 use Rattle.clap.proofs.WalkLemmas.{find_row, first_value-rows, one_text-rows}
 use Rattle.command_words.specs.Words.{Run}
+use Rattle.command_words.specs.declared.asked.GenWords.{GenWords}
 use Rattle.command_words.proofs.TakesLaw.{Found, brief_text}
+use Rattle.command_words.proofs.GenLaw.{GenFound}
 
 values_by : (o : Option Entry) → option_map raw_values (option_map (λ (e : Entry). e.1) o) ≡ option_map (λ (r : Row). r.values) (option_map row_of o)
 values_by None = refl
@@ -22,6 +24,9 @@ image_read f rows run is found = first_value-rows f (codes "image") ∙ ap (firs
 
 pub scripts_read : (f : Entries) (rows : List Row) (run : Run) → rows_of f ≡ rows → Found run rows → option_map raw_values (matched_of f (codes "scripts")) ≡ Some run.scripts
 scripts_read f rows run is found = raw_rows f (codes "scripts") ∙ ap (all_of (codes "scripts")) is ∙ found.scripts
+
+pub numbers_read : (f : Entries) (rows : List Row) (asked : GenWords) → rows_of f ≡ rows → (found : GenFound asked rows) → option_map raw_values (matched_of f (codes "numbers")) ≡ Some found.words
+numbers_read f rows asked is found = raw_rows f (codes "numbers") ∙ ap (all_of (codes "numbers")) is ∙ found.numbers
 
 pub brief_read : (f : Entries) (rows : List Row) (run : Run) → rows_of f ≡ rows → Found run rows → one_text f (codes "brief") ≡ Some (brief_text run.brief)
 brief_read f rows run is found = one_text-rows f (codes "brief") ∙ ap (one_of (codes "brief")) is ∙ found.brief

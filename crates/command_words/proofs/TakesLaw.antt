@@ -10,9 +10,10 @@ use Rattle.clap.specs.Simple.{filled, help_rule, built, entered, names_of, is_si
 use Rattle.clap.specs.declared.parser.matches.ArgMatches.{ArgMatches}
 use Rattle.clap.specs.Takes.{takes, built_takes, level_passes, settle_passes, turn_passes, walk_passes, is_valid, is_given, entered_passes}
 use Rattle.clap.proofs.OnLiterals.{clap_on_literals}
-use Rattle.command_words.specs.App.{run_app}
+use Rattle.command_words.specs.App.{words_app}
 use Rattle.command_words.specs.Words.{Run, flags, others, brief_in, run_of, run_in}
 use Rattle.command_words.proofs.RowLemmas.{row_at, grown, other_row, same_row, same_text, has_some, has_none}
+use Rattle.command_words.proofs.AboveLaw.{top_rules, names_above, met, stop, taken, simple}
 use Rattle.command_words.proofs.StepLemmas.{leaf, rules, brief, scripts, at, Stands, Ends, image_row, scripts_row, brief_row, named_by, names_by, no_flags, one_flag, both_hold}
 
 -- AFTER THE WALK
@@ -68,61 +69,14 @@ level short name first names words e =
     (both_hold _ _ (ap (settle_passes rules false) end ∙ e.stands.settles)
     (ap (λ (h : Held). is_valid leaf (finished rules h) false) end ∙ valid e.held short name first names e.stands))
 
--- ABOVE
-
-abbrev top_rules : List Rule
-top_rules = (built run_app).top.rules
-
-abbrev names_above : Names
-names_above = names_of (built run_app)
-
-abbrev met : List Text → Walk
-met words = record (walk_from nothing_held) { stopped = Some (codes "run", words) }
-
-run_walked : walked top_rules names_above (walk_from nothing_held) (codes "run") ≡ met []
+-- `run`
+run_walked : walked top_rules names_above (walk_from nothing_held) (codes "run") ≡ met (codes "run") []
 unfolding clap_on_literals
 run_walked = refl
 
-run_turn : turn_passes (built run_app).top names_above (walk_from nothing_held) (codes "run") ≡ true
+run_turn : turn_passes (built words_app).top names_above (walk_from nothing_held) (codes "run") ≡ true
 unfolding clap_on_literals
 run_turn = refl
-
-stopped_fold : (words before : List Text) → fold (walked top_rules names_above) (met before) words ≡ met (before ++ words)
-unfolding walked
-stopped_fold [] before = ap met (sym (append-nil before))
-stopped_fold (word ∷ words) before = stopped_fold words (before ++ word ∷ []) ∙ ap met (append_assoc before (word ∷ []) words)
-
-stopped_passes : (words before : List Text) → walk_passes (built run_app).top names_above (met before) words ≡ true
-unfolding walked walk_passes
-stopped_passes [] before = refl
-stopped_passes (word ∷ words) before = stopped_passes words (before ++ word ∷ [])
-
-stop : (words : List Text) → walk top_rules names_above nothing_held (codes "run" ∷ words) ≡ met words
-stop words = ap (λ (w : Walk). fold (walked top_rules names_above) w words) run_walked ∙ stopped_fold words []
-
-above_passes : (words : List Text) → walk_passes (built run_app).top names_above (walk_from nothing_held) (codes "run" ∷ words) ≡ true
-unfolding walk_passes
-above_passes words =
-    both_hold _ _ run_turn (ap (λ (w : Walk). walk_passes (built run_app).top names_above w words) run_walked ∙ stopped_passes words [])
-
-above_valid : (rows : List Row) (t : Bool) → is_valid (built run_app).top rows t ≡ true
-above_valid rows true = refl
-above_valid rows false = refl
-
-above_level : (words : List Text) (t : Bool) → level_passes (built run_app).top names_above nothing_held (codes "run" ∷ words) t ≡ true
-above_level words t =
-    both_hold _ _ (above_passes words)
-    (both_hold _ _ (ap (λ (w : Walk). settle_passes top_rules false w.held) (stop words))
-    (above_valid (finished top_rules (walk top_rules names_above nothing_held (codes "run" ∷ words)).held) t))
-
-simple : is_simple run_app ≡ true
-unfolding clap_on_literals
-simple = refl
-
-taken : (words : List Text) → level_passes leaf [] nothing_held words false ≡ true → takes run_app (codes "run" ∷ words) ≡ true
-taken words below =
-    both_hold (is_simple run_app) (built_takes (built run_app) nothing_held (codes "run" ∷ words)) simple
-    (both_hold _ _ (ap (λ (w : Walk). entered_passes (built run_app) w.stopped) (stop words) ∙ below) (above_level words (is_some (entered (built run_app) (walk top_rules names_above nothing_held (codes "run" ∷ words)).stopped))))
 
 -- WORDS THAT ARE ADMITTED
 
@@ -180,17 +134,17 @@ ends_by words run p (inr one) =
     (one_flag words None [] nothing_held false one.0 begins))
 
 -- words that the definition admits are taken
-run_words : (words : List Text) (run : Run) → run_of (brief_in (flags words)) (others words) ≡ Some run → takes run_app (codes "run" ∷ words) ≡ true
+run_words : (words : List Text) (run : Run) → run_of (brief_in (flags words)) (others words) ≡ Some run → takes words_app (codes "run" ∷ words) ≡ true
 run_words words run is =
     let p : Parts (flags words) (others words) run = parts_of (brief_in (flags words)) (flags words) (others words) run refl is in
-    taken words (level run.brief run.image p.first p.names words (ends_by words run p p.flags))
+    taken (codes "run") words run_walked run_turn (level run.brief run.image p.first p.names words (ends_by words run p p.flags))
 
 by_word : (t : Bool) (word : Text) (words : List Text) (run : Run) → bytes_eq word (codes "run") ≡ t → (if t then run_of (brief_in (flags words)) (others words) else None) ≡ Some run
-    → takes run_app (word ∷ words) ≡ true
-by_word true word words run is admitted = ap (λ (w : Text). takes run_app (w ∷ words)) (same_text word (codes "run") is) ∙ run_words words run admitted
+    → takes words_app (word ∷ words) ≡ true
+by_word true word words run is admitted = ap (λ (w : Text). takes words_app (w ∷ words)) (same_text word (codes "run") is) ∙ run_words words run admitted
 by_word false word words run is admitted = absurd cc
 
-pub admitted_taken : (words : List Text) (run : Run) → run_in words ≡ Some run → takes run_app words ≡ true
+pub admitted_taken : (words : List Text) (run : Run) → run_in words ≡ Some run → takes words_app words ≡ true
 admitted_taken [] run is = absurd cc
 admitted_taken (word ∷ words) run is = by_word (bytes_eq word (codes "run")) word words run refl is
 
@@ -227,13 +181,13 @@ first_image : (rows : List Row) (name : Text) → row_at (codes "image") rows �
 first_image rows name is = ap (λ (o : Option Row). option_and_then (λ (r : Row). slice_get r.values 0) o) is
 
 found_at : (words : List Text) (run : Run) → run_of (brief_in (flags words)) (others words) ≡ Some run
-    → (rows : List Row) × (subcommand_of run_app (codes "run" ∷ words) ≡ Some (codes "run", rows)) × Found run rows
+    → (rows : List Row) × (subcommand_of words_app (codes "run" ∷ words) ≡ Some (codes "run", rows)) × Found run rows
 found_at words run is =
     let p : Parts (flags words) (others words) run = parts_of (brief_in (flags words)) (flags words) (others words) run refl is in
     let e : Ends run.brief (Some run.image) (p.first ∷ p.names) (at nothing_held false None false) words = ends_by words run p p.flags in
     let end : (walk rules [] nothing_held words).held ≡ e.held = ap (λ (w : Walk). w.held) e.is in (
       finished rules e.held,
-      ap (λ (w : Walk). entered (built run_app) w.stopped) (stop words) ∙ ap (λ (h : Held). Some (codes "run", finished rules h)) end,
+      ap (λ (w : Walk). entered (built words_app) w.stopped) (stop (codes "run") words run_walked) ∙ ap (λ (h : Held). Some (codes "run", finished rules h)) end,
       record {
         brief = ap (one_of (codes "brief")) (end_rows e.held) ∙ brief_by_flag run.brief (settled rules e.held).rows e.stands.flag;
         image = first_image (finished rules e.held) run.image (image_given e.held run.brief run.image (p.first ∷ p.names) e.stands);
@@ -242,14 +196,14 @@ found_at words run is =
     )
 
 found_by : (t : Bool) (word : Text) (words : List Text) (run : Run) → bytes_eq word (codes "run") ≡ t → (if t then run_of (brief_in (flags words)) (others words) else None) ≡ Some run
-    → (rows : List Row) × (subcommand_of run_app (word ∷ words) ≡ Some (codes "run", rows)) × Found run rows
+    → (rows : List Row) × (subcommand_of words_app (word ∷ words) ≡ Some (codes "run", rows)) × Found run rows
 found_by true word words run is admitted =
     let f = found_at words run admitted in
-    (f.0, ap (λ (w : Text). subcommand_of run_app (w ∷ words)) (same_text word (codes "run") is) ∙ f.1, f.2)
+    (f.0, ap (λ (w : Text). subcommand_of words_app (w ∷ words)) (same_text word (codes "run") is) ∙ f.1, f.2)
 found_by false word words run is admitted = absurd cc
 
 pub admitted_found : (words : List Text) (run : Run) → run_in words ≡ Some run
-    → (rows : List Row) × (subcommand_of run_app words ≡ Some (codes "run", rows)) × Found run rows
+    → (rows : List Row) × (subcommand_of words_app words ≡ Some (codes "run", rows)) × Found run rows
 admitted_found [] run is = absurd cc
 admitted_found (word ∷ words) run is = found_by (bytes_eq word (codes "run")) word words run refl is
 
@@ -257,11 +211,11 @@ some_run : (o : Option Run) → IsSome o → (run : Run) × (o ≡ Some run)
 some_run None some = absurd cc
 some_run (Some run) some = (run, refl)
 
-pub admitted_some : (words : List Text) → IsSome (run_in words) → takes run_app words ≡ true
+pub admitted_some : (words : List Text) → IsSome (run_in words) → takes words_app words ≡ true
 admitted_some words some = admitted_taken words (some_run (run_in words) some).0 (some_run (run_in words) some).1
 
 -- what a parse of admitted words gives
-pub matches_found : (words : List Text) (m : ArgMatches) → IsSome (run_in words) → HasMatchesOf run_app words m
+pub matches_found : (words : List Text) (m : ArgMatches) → IsSome (run_in words) → HasMatchesOf words_app words m
     → (run : Run) × (rows : List Row) × (run_in words ≡ Some run) × (subcommand_rows_of m ≡ Some (codes "run", rows)) × Found run rows
 matches_found words m some has =
     let run = some_run (run_in words) some in

@@ -1,8 +1,14 @@
 -- The words of a run, met one after another.
-use Rattle.std.proofs.Common.{◌≡◌, ℕ, ◌+◌, Bool, true, false, not, cond, List, [], ◌∷◌, ◌++◌, refl, sym, ◌∙◌, ap, subst, length, arith, ◌||◌, ◌&&◌, codes}
+use Rattle.std.proofs.Common.{◌≡◌, ℕ, ◌+◌, Bool, true, false, not, cond, List, [], ◌∷◌, ◌++◌, refl, sym, ◌∙◌, ap, subst, length, arith, ◌<◌, get_or, map, drop, drop-cons, add-one, ◌||◌, ◌&&◌, codes}
 use Rattle.std.specs.Prelude.{bytes_eq, is_some, nat_le, Option, Some}
 use Rattle.command_words.specs.Words.{Text, is_flag, is_end, flags, others, brief_in, run_of}
 use Rattle.command_words.proofs.RowLemmas.{same_text}
+
+-- the next word and what follows it
+pub next_word : {X : Type 0} (f : X → Text) (xs : List X) (i : ℕ) (d : X) (word : Text) → i < length xs → d ≡ get_or xs i d → word ≡ f d → map f (drop i xs) ≡ word ∷ map f (drop (i + 1) xs)
+next_word f xs i d word within is text =
+    let split : drop i xs ≡ get_or xs i d ∷ drop (i + 1) xs = rw add-one (drop-cons xs i d within) in
+    ap (map f) split ∙ ap (λ (t : Text). t ∷ map f (drop (i + 1) xs)) (ap f (sym is) ∙ sym text)
 
 abbrev pub one_brief : List Text
 one_brief = codes "--brief" ∷ []
@@ -12,28 +18,28 @@ pub record Tally (all rest : List Text) (ended brief : Bool) (names : ℕ) : Typ
   pub flags_are : flags all ≡ cond brief one_brief [] ++ cond ended [] (flags rest)
   pub names_are : length (others all) ≡ names + cond ended (length rest) (length (others rest))
 
-no_end : (word : Text) → is_flag word ≡ false → is_end word ≡ false
+pub no_end : (word : Text) → is_flag word ≡ false → is_end word ≡ false
 no_end [] is = refl
 no_end (x ∷ xs) is = simp is
 
-end_flag : (word : Text) → is_end word ≡ true → is_flag word ≡ true
+pub end_flag : (word : Text) → is_end word ≡ true → is_flag word ≡ true
 end_flag word is = ap is_flag (same_text word (codes "--") is)
 
-flags_by : (e f : Bool) (word : Text) (rest : List Text) → is_end word ≡ e → is_flag word ≡ f → flags (word ∷ rest) ≡ cond e [] (cond f (word ∷ flags rest) (flags rest))
+pub flags_by : (e f : Bool) (word : Text) (rest : List Text) → is_end word ≡ e → is_flag word ≡ f → flags (word ∷ rest) ≡ cond e [] (cond f (word ∷ flags rest) (flags rest))
 flags_by true f word rest end flag = simp end
 flags_by false true word rest end flag = simp (end, flag)
 flags_by false false word rest end flag = simp (end, flag)
 
-others_by : (e f : Bool) (word : Text) (rest : List Text) → is_end word ≡ e → is_flag word ≡ f → others (word ∷ rest) ≡ cond e rest (cond f (others rest) (word ∷ others rest))
+pub others_by : (e f : Bool) (word : Text) (rest : List Text) → is_end word ≡ e → is_flag word ≡ f → others (word ∷ rest) ≡ cond e rest (cond f (others rest) (word ∷ others rest))
 others_by true f word rest end flag = simp end
 others_by false true word rest end flag = simp (end, flag)
 others_by false false word rest end flag = simp (end, flag)
 
-not_true : (b : Bool) → not b ≡ true → b ≡ false
+pub not_true : (b : Bool) → not b ≡ true → b ≡ false
 not_true true is = cc
 not_true false is = refl
 
-not_false : (b : Bool) → not b ≡ false → b ≡ true
+pub not_false : (b : Bool) → not b ≡ false → b ≡ true
 not_false true is = refl
 not_false false is = cc
 

@@ -1,4 +1,4 @@
--- The command as `clap` sees it.
+-- The commands as `clap` sees them.
 use Rattle.std.specs.Prelude.{[], ◌∷◌, true, Some, codes}
 use Rattle.clap.specs.Walk.{Rule}
 use Rattle.clap.specs.Simple.{App, Shape, new_rule, new_shape, with_subcommand}
@@ -16,5 +16,12 @@ scripts_rule = record (new_rule (codes "scripts")) { required = true; action = S
 abbrev pub run_shape : Shape
 run_shape = record (new_shape (codes "run")) { rules = brief_rule ∷ image_rule ∷ scripts_rule ∷ [] }
 
-abbrev pub run_app : App
-run_app = with_subcommand (record { top = record (new_shape (codes "svsm_run")) { no_binary_name = true }; subs = [] }) run_shape
+abbrev pub numbers_rule : Rule
+numbers_rule = record (new_rule (codes "numbers")) { required = true; action = Some Append }
+
+abbrev pub gen_shape : Shape
+gen_shape = record (new_shape (codes "gen")) { rules = numbers_rule ∷ [] }
+
+abbrev pub words_app : App
+words_app =
+    with_subcommand (with_subcommand (record { top = record (new_shape (codes "svsm_run")) { no_binary_name = true }; subs = [] }) run_shape) gen_shape

@@ -1,7 +1,20 @@
--- What the code has of a run.
-use Rattle.std.specs.Prelude.{map}
-use Rattle.command_words.specs.declared.taken.RunWords.{RunWords}
+-- What the code has of a command.
+use Rattle.std.specs.Prelude.{map, Option, Some, None}
+use Rattle.command_words.specs.declared.asked.RunWords.{RunWords}
+use Rattle.command_words.specs.declared.asked.GenWords.{GenWords}
+use Rattle.command_words.specs.declared.asked.Command.{Command}
+use Rattle.command_words.specs.declared.asked.Command.TheVariants as commands
 use Rattle.command_words.specs.Words.{Run}
 
 abbrev pub run_seen : RunWords → Run
 run_seen run = record { brief = run.brief; image = run.image.now; scripts = map (λ name. name.now) run.scripts.items }
+
+-- the run that is asked for, if it is one
+abbrev pub run_asked : Option Command → Option Run
+run_asked (Some (commands.Run run)) = Some (run_seen run)
+run_asked _ = None
+
+-- the generated scripts that are asked for, if it is they
+abbrev pub gen_asked : Option Command → Option GenWords
+gen_asked (Some (commands.Gen numbers)) = Some numbers
+gen_asked _ = None

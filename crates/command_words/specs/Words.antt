@@ -1,5 +1,7 @@
 -- The words of a command line, without the program's name.
-use Rattle.std.specs.Prelude.{ℕ, List, [], ◌∷◌, Bool, true, false, ◌==◌, nat_le, if◌then◌else◌, length, Option, Some, None, bytes_eq, codes}
+use Rattle.std.specs.Prelude.{ℕ, ◌+◌, ◌*◌, ◌-◌, ◌^◌, List, [], ◌∷◌, Bool, true, false, ◌==◌, nat_le, ◌&&◌, if◌then◌else◌, length, Option, Some, None, bytes_eq, codes, fold}
+use Rattle.std.specs.List.{list_all}
+use Rattle.command_words.specs.declared.asked.GenWords.{GenWords}
 
 abbrev pub Text : Type 0
 Text = List ℕ
@@ -23,6 +25,8 @@ abbrev pub others : List Text → List Text
 others [] = []
 others (word ∷ words) = if is_end word then words else if is_flag word then others words else word ∷ others words
 
+-- A RUN
+
 -- a run: whether the report is brief, the name of the image, and the names of the scripts
 pub record Run : Type 0 where
   pub brief : Bool
@@ -44,3 +48,35 @@ run_of _ _ = None
 abbrev pub run_in : List Text → Option Run
 run_in [] = None
 run_in (word ∷ words) = if bytes_eq word (codes "run") then run_of (brief_in (flags words)) (others words) else None
+
+-- GENERATED SCRIPTS
+
+-- whether a byte is a digit, 0 to 9
+abbrev pub is_digit : ℕ → Bool
+is_digit byte = nat_le 48 byte && nat_le byte 57
+
+-- the value of a run of digits, of which there is at least one; leading zeros are allowed
+abbrev pub value_of : Text → Option ℕ
+value_of [] = None
+value_of (first ∷ rest) =
+    if list_all is_digit (first ∷ rest) then Some (fold (λ value digit. 10 * value + (digit - 48)) 0 (first ∷ rest)) else None
+
+-- a value between these two, both of them allowed
+abbrev pub between : ℕ → ℕ → Option ℕ → Option ℕ
+between least most None = None
+between least most (Some value) = if nat_le least value && nat_le value most then Some value else None
+
+-- all three numbers, where they are there
+abbrev pub gen_with : Option ℕ → Option ℕ → Option ℕ → Option GenWords
+gen_with (Some cores) (Some requests) (Some number) = Some (record { cores = cores; requests = requests; number = number })
+gen_with _ _ _ = None
+
+-- no flag, and three numbers: 1 to 16 cores, 1 to 128 requests for each, and any number of 64 bits
+abbrev pub gen_of : List Text → List Text → Option GenWords
+gen_of [] (cores ∷ (requests ∷ (number ∷ []))) =
+    gen_with (between 1 16 (value_of cores)) (between 1 128 (value_of requests)) (between 0 (2 ^ 64 - 1) (value_of number))
+gen_of _ _ = None
+
+abbrev pub gen_in : List Text → Option GenWords
+gen_in [] = None
+gen_in (word ∷ words) = if bytes_eq word (codes "gen") then gen_of (flags words) (others words) else None

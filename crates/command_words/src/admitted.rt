@@ -1,6 +1,9 @@
 //! Which words are a command.
 ghost use Rattle.std.specs.Prelude.{◌≡◌, map, string_bytes, is_some, not, ◌||◌, ◌&&◌, bytes_eq, codes};
-ghost use Rattle.command_words.specs.Words.{is_flag, is_end, run_in, run_of, brief_in, flags, others};
+ghost use Rattle.command_words.specs.Words.{is_flag, is_end, run_in, run_of, brief_in, flags, others, gen_in, gen_of};
+ghost use Rattle.command_words.specs.Scan.{is_number_at};
+
+use crate::decimal::{number_between, number_of};
 
 fn is_flag(word: &str) -> bool
     ensures { result ≡ is_flag word.now }
@@ -53,12 +56,57 @@ fn are_of_run(words: &[String]) -> bool
     (2..=17).contains(&names)
 }
 
-/// Whether the words are of the form.
+/// Whether the words ask for a run.
 pub fn is_run(words: &[String]) -> bool
     ensures { result ≡ is_some (run_in (map string_bytes words.now)) }
 {
     match words {
         [word, rest @ ..] if word.as_str() == "run" => are_of_run(rest),
+        _ => false,
+    }
+}
+
+// Whether the word is the number with this place: cores, requests, number.
+fn is_number(place: usize, word: &str) -> bool
+    ensures { result ≡ is_number_at place word.now }
+{
+    match place {
+        0 => number_between(1, 16, word).is_some(),
+        1 => number_between(1, 128, word).is_some(),
+        2 => number_of(word).is_some(),
+        _ => false,
+    }
+}
+
+// Whether the words after `gen` are its numbers.
+fn are_of_gen(words: &[String]) -> bool
+    ensures { result ≡ is_some (gen_of (flags (map string_bytes words.now)) (others (map string_bytes words.now))) }
+{
+    let mut ended = false;
+    let mut numbers: usize = 0;
+    for word in words {
+        let text = word.as_str();
+        if is_name(ended, text) {
+            if is_number(numbers, text) {
+                numbers += 1;
+            } else {
+                return false;
+            }
+        } else if is_end(text) {
+            ended = true;
+        } else {
+            return false;
+        }
+    }
+    numbers == 3
+}
+
+/// Whether the words ask for generated scripts.
+pub fn is_gen(words: &[String]) -> bool
+    ensures { result ≡ is_some (gen_in (map string_bytes words.now)) }
+{
+    match words {
+        [word, rest @ ..] if word.as_str() == "gen" => are_of_gen(rest),
         _ => false,
     }
 }

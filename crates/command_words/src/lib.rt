@@ -2,9 +2,12 @@
 #![tactic(auto)]
 
 mod admitted;
+mod asked;
+mod decimal;
 mod taken;
 
-pub use taken::{RunWords, command_of};
+pub use asked::{Command, GenWords, RunWords};
+pub use taken::command_of;
 
 #[cfg(test)]
 mod tests;

@@ -1,27 +1,21 @@
-//! The words of a run, taken apart.
-ghost use Rattle.std.specs.Prelude.{◌≡◌, IfOk, OnErr, IsSome, Some, map, option_map, string_bytes};
-ghost use Rattle.clap.specs.Words.{app_of, HasMatchesOf};
-ghost use Rattle.command_words.specs.App.{run_app};
-ghost use Rattle.command_words.specs.Words.{run_in};
-ghost use Rattle.command_words.specs.Seen.{run_seen};
+//! The words, taken apart.
+ghost use Rattle.std.specs.Prelude.{◌≡◌, ◌⊎◌, IfOk, OnErr, IsSome, Some, map, option_map, string_bytes};
+ghost use Rattle.clap.specs.Words.{app_of, with_subcommand, HasMatchesOf};
+ghost use Rattle.command_words.specs.App.{run_shape, gen_shape, words_app};
+ghost use Rattle.command_words.specs.Words.{run_in, gen_in};
+ghost use Rattle.command_words.specs.Seen.{run_seen, run_asked, gen_asked};
 
-use crate::admitted::is_run;
+use crate::admitted::{is_gen, is_run};
+use crate::asked::{Command, GenWords, RunWords};
+use crate::decimal::numbers_of;
 use clap::error::ErrorKind;
-use clap::{Arg, ArgAction, ArgMatches, Command};
+use clap::{Arg, ArgAction, ArgMatches, Command as App};
 use std::alloc::{AllocError, Global};
 use svsm_types::NoMemory;
 
-/// A run, as the words ask for it.
-#[derive(Debug, Drop)]
-pub struct RunWords<'a> {
-    pub brief: bool,
-    pub image: &'a str,
-    pub scripts: Vec<&'a str>,
-}
-
-// The command.
-fn command<'a>(alloc: Global) -> Result<Command<'a>, AllocError>
-    ensures { IfOk result (λ c. app_of c ≡ run_app) }
+// With the command of a run.
+fn with_run<'a>(alloc: Global, top: App<'a>) -> Result<App<'a>, AllocError>
+    ensures { IfOk result (λ c. app_of c ≡ with_subcommand (app_of top.entry) run_shape) }
 {
     let brief = Arg::new(alloc, "brief")
         .long("brief")
@@ -32,19 +26,33 @@ fn command<'a>(alloc: Global) -> Result<Command<'a>, AllocError>
     let scripts = Arg::new(alloc, "scripts")
         .required(true)
         .action(ArgAction::Append);
-    let run = Command::new(alloc, "run")
-        .arg(brief)?
-        .arg(image)?
-        .arg(scripts)?;
-    Command::new(alloc, "svsm_run")
-        .no_binary_name(true)
-        .subcommand(run)
+    let run = App::new(alloc, "run").arg(brief)?.arg(image)?.arg(scripts)?;
+    top.subcommand(run)
+}
+
+// With the command of generated scripts.
+fn with_gen<'a>(alloc: Global, top: App<'a>) -> Result<App<'a>, AllocError>
+    ensures { IfOk result (λ c. app_of c ≡ with_subcommand (app_of top.entry) gen_shape) }
+{
+    let numbers = Arg::new(alloc, "numbers")
+        .required(true)
+        .action(ArgAction::Append);
+    let generated = App::new(alloc, "gen").arg(numbers)?;
+    top.subcommand(generated)
+}
+
+// Both commands.
+fn command<'a>(alloc: Global) -> Result<App<'a>, AllocError>
+    ensures { IfOk result (λ c. app_of c ≡ words_app) }
+{
+    let top = App::new(alloc, "svsm_run").no_binary_name(true);
+    with_gen(alloc, with_run(alloc, top)?)
 }
 
 // The words, parsed. Words that are admitted are refused only for want of memory.
 fn parsed<'a>(alloc: Global, words: &'a [String]) -> Result<ArgMatches<'a>, NoMemory>
-    requires { IsSome (run_in (map string_bytes words.now)) }
-    ensures { IfOk result (λ m. HasMatchesOf run_app (map string_bytes words.entry.now) m) }
+    requires { IsSome (run_in (map string_bytes words.now)) ⊎ IsSome (gen_in (map string_bytes words.now)) }
+    ensures { IfOk result (λ m. HasMatchesOf words_app (map string_bytes words.entry.now) m) }
 {
     match command(alloc)?.try_get_matches_from(words) {
         Ok(matches) => Ok(matches),
@@ -79,13 +87,35 @@ fn run_of<'a>(alloc: Global, words: &'a [String]) -> Result<RunWords<'a>, NoMemo
     })
 }
 
-/// The run that the words ask for, where they are of the form. Only words that are can want memory.
-pub fn command_of<'a>(alloc: Global, words: &'a [String]) -> Result<Option<RunWords<'a>>, NoMemory>
-    ensures run { IfOk result (λ run. option_map run_seen run ≡ run_in (map string_bytes words.entry.now)) }
-    ensures memory { OnErr result (IsSome (run_in (map string_bytes words.entry.now))) }
+// The generated scripts that these words ask for.
+fn gen_of(alloc: Global, words: &[String]) -> Result<GenWords, NoMemory>
+    requires { IsSome (gen_in (map string_bytes words.now)) }
+    ensures { IfOk result (λ asked. gen_in (map string_bytes words.now) ≡ Some asked) }
 {
-    if !is_run(words) {
-        return Ok(None);
+    let matches = parsed(alloc, words)?;
+    let Some((_, found)) = matches.subcommand() else {
+        unreachable!()
+    };
+    let Some(numbers) = found.get_raw("numbers") else {
+        unreachable!()
+    };
+    let Some(asked) = numbers_of(numbers) else {
+        unreachable!()
+    };
+    Ok(asked)
+}
+
+/// The command that the words ask for, where they are of a form. Only words that are can want memory.
+pub fn command_of<'a>(alloc: Global, words: &'a [String]) -> Result<Option<Command<'a>>, NoMemory>
+    ensures run { IfOk result (λ command. run_asked command ≡ run_in (map string_bytes words.entry.now)) }
+    ensures generated { IfOk result (λ command. gen_asked command ≡ gen_in (map string_bytes words.entry.now)) }
+    ensures memory { OnErr result (IsSome (run_in (map string_bytes words.entry.now)) ⊎ IsSome (gen_in (map string_bytes words.entry.now))) }
+{
+    if is_run(words) {
+        return Ok(Some(Command::Run(run_of(alloc, words)?)));
     }
-    Ok(Some(run_of(alloc, words)?))
+    if is_gen(words) {
+        return Ok(Some(Command::Gen(gen_of(alloc, words)?)));
+    }
+    Ok(None)
 }

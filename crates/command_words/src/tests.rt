@@ -15,8 +15,8 @@ fn words(alloc: Global, line: &str) -> Result<Vec<String>, Fail> {
 fn a_run_has_an_image_scripts_and_a_flag(rt: HostRuntime) -> Result<(), Fail> {
     let alloc = rt.alloc();
     let given = words(alloc, "run image --brief a b")?;
-    let Some(run) = command_of(alloc, &given)? else {
-        panic!(&rt; "the words are of the form")
+    let Some(Command::Run(run)) = command_of(alloc, &given)? else {
+        panic!(&rt; "the words ask for a run")
     };
     assert!(rt; run.brief);
     assert_eq!(rt; run.image, "image");
@@ -28,8 +28,8 @@ fn a_run_has_an_image_scripts_and_a_flag(rt: HostRuntime) -> Result<(), Fail> {
 fn two_dashes_end_the_flags(rt: HostRuntime) -> Result<(), Fail> {
     let alloc = rt.alloc();
     let given = words(alloc, "run -- --brief -- run")?;
-    let Some(run) = command_of(alloc, &given)? else {
-        panic!(&rt; "the words are of the form")
+    let Some(Command::Run(run)) = command_of(alloc, &given)? else {
+        panic!(&rt; "the words ask for a run")
     };
     assert!(rt; !run.brief);
     assert_eq!(rt; run.image, "--brief");
@@ -41,8 +41,8 @@ fn two_dashes_end_the_flags(rt: HostRuntime) -> Result<(), Fail> {
 fn an_empty_word_is_a_name(rt: HostRuntime) -> Result<(), Fail> {
     let alloc = rt.alloc();
     let given = words(alloc, "run  a")?;
-    let Some(run) = command_of(alloc, &given)? else {
-        panic!(&rt; "the words are of the form")
+    let Some(Command::Run(run)) = command_of(alloc, &given)? else {
+        panic!(&rt; "the words ask for a run")
     };
     assert_eq!(rt; run.image, "");
     Ok(())
@@ -52,7 +52,9 @@ fn an_empty_word_is_a_name(rt: HostRuntime) -> Result<(), Fail> {
 fn sixteen_scripts_are_taken_and_no_more(rt: HostRuntime) -> Result<(), Fail> {
     let alloc = rt.alloc();
     let most = words(alloc, "run image 1 2 3 4 5 6 7 8 9 10 11 12 13 14 15 16")?;
-    assert!(rt; matches!(command_of(alloc, &most)?, Some(run) if run.scripts.len() == 16));
+    assert!(rt;
+        matches!(command_of(alloc, &most)?, Some(Command::Run(run)) if run.scripts.len() == 16)
+    );
     let more = words(alloc, "run image 1 2 3 4 5 6 7 8 9 10 11 12 13 14 15 16 17")?;
     assert!(rt; command_of(alloc, &more)?.is_none());
     Ok(())
@@ -65,7 +67,6 @@ fn other_words_are_refused(rt: HostRuntime) -> Result<(), Fail> {
         "",
         "run",
         "run image",
-        "gen 1 1 1",
         "help",
         "-h",
         "--help",
@@ -83,5 +84,72 @@ fn other_words_are_refused(rt: HostRuntime) -> Result<(), Fail> {
         assert!(rt; command_of(alloc, &given)?.is_none());
     }
     assert!(rt; command_of(alloc, &[])?.is_none());
+    Ok(())
+}
+
+// The numbers of generated scripts, where the words of the line ask for them.
+fn numbers(alloc: Global, line: &str) -> Result<Option<GenWords>, Fail> {
+    let given = words(alloc, line)?;
+    match command_of(alloc, &given)? {
+        Some(Command::Gen(numbers)) => Ok(Some(numbers)),
+        _ => Ok(None),
+    }
+}
+
+fn of(cores: u32, requests: u64, number: u64) -> Option<GenWords> {
+    Some(GenWords {
+        cores,
+        requests,
+        number,
+    })
+}
+
+#[test]
+fn generated_scripts_have_three_numbers(rt: HostRuntime) -> Result<(), Fail> {
+    let alloc = rt.alloc();
+    assert_eq!(rt; numbers(alloc, "gen 4 64 7")?, of(4, 64, 7));
+    assert_eq!(rt; numbers(alloc, "gen 1 1 0")?, of(1, 1, 0));
+    assert_eq!(rt;
+        numbers(alloc, "gen 16 128 18446744073709551615")?,
+        of(16, 128, u64::MAX)
+    );
+    assert_eq!(rt;
+        numbers(alloc, "gen 0016 00000000000000000000000000128 00")?,
+        of(16, 128, 0)
+    );
+    assert_eq!(rt; numbers(alloc, "gen 4 -- 64 7")?, of(4, 64, 7));
+    Ok(())
+}
+
+#[test]
+fn other_words_of_gen_are_refused(rt: HostRuntime) -> Result<(), Fail> {
+    let alloc = rt.alloc();
+    let lines = [
+        "gen",
+        "gen 1 1",
+        "gen 1 1 1 1",
+        "gen 0 1 1",
+        "gen 17 1 1",
+        "gen 1 0 1",
+        "gen 1 129 1",
+        "gen 1 1 18446744073709551616",
+        "gen 1 1 ",
+        "gen 1 1 +1",
+        "gen 1 1 0x1",
+        "gen 1 1 a",
+        "gen --brief 1 1 1",
+        "gen - 1 1",
+        "gen -1 1 1",
+        "gen 1 1 -- --",
+        "gen 1 1 1 -- --",
+        "gen -- 1 -- 1",
+        "-- gen 1 1 1",
+        "Gen 1 1 1",
+        "generate 1 1 1",
+    ];
+    for line in lines {
+        let given = words(alloc, line)?;
+        assert!(rt; command_of(alloc, &given)?.is_none());
+    }
     Ok(())
 }

@@ -21,11 +21,20 @@ pub fn merge(alloc: Global, logs: Vec<Vec<Entry>>) -> Result<Vec<Entry>, NoMemor
     Ok(all)
 }
 
-// The entries, log after log.
+// How many entries the logs have.
+fn count_of(logs: &[Vec<Entry>]) -> usize {
+    let mut count = 0usize;
+    for log in logs {
+        count = count.saturating_add(log.len());
+    }
+    count
+}
+
+// The entries, log after log. Room for all is made at once, so that none is moved twice.
 fn joined(alloc: Global, logs: Vec<Vec<Entry>>) -> Result<Vec<Entry>, NoMemory>
     ensures { IfOk result (λ all. all.items ≡ entries_in logs.items) }
 {
-    let mut all = Vec::new(alloc);
+    let mut all = Vec::with_capacity(alloc, count_of(&logs))?;
     'logs: for mut log in logs {
         all.append(&mut log)?;
     }

@@ -1,13 +1,15 @@
-//! The places of a run behind a lock each, where two cores step at the same time.
+//! The places of a run behind a lock each, where the cores of a wave step at the same time.
 //!
-//! `run_both` takes the places and a list of steps for each core, and gives the places back with their part of the one history.
+//! `run_wave` takes the places and the callers of a wave, and gives the places back with the one history of the wave and what
+//! each core gave.
 #![tactic(auto)]
 
-mod both;
-mod ran;
+mod job;
+mod opened;
+mod seats;
+mod wave;
 
-pub use both::run_both;
-pub use ran::{Ran, Told};
+pub use wave::{Wave, run_wave};
 
 #[cfg(test)]
 mod tests;

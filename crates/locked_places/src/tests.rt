@@ -1,145 +1,128 @@
-//! Two cores at the same time, of which one is held in its first step.
-ghost use Rattle.std.specs.Prelude.{◌≡◌, ℕ, ◌+◌, ◌≤◌, ◌<◌, [], None, length, replicate, IfOk, OnOk};
-ghost use Rattle.rmp_table.specs.PackedKnown.{packed_known};
-ghost use Rattle.range_locks.specs.Passes.{IsFresh};
-ghost use Rattle.locked_places.specs.Ran.{AreFresh};
+//! Two cores of a wave at the same time, of which one is held in its first step.
+ghost use Rattle.std.specs.Prelude.{◌≡◌, ◌+◌, length, IfOk};
+ghost use Rattle.svsm_steps.specs.Requests.{AreScripts};
+ghost use Rattle.place_core.specs.Turned.{EachPlace, IsFresh, apics_of};
+ghost use Rattle.locked_places.specs.Small.{small, caller};
 
 mod gate;
 
 use super::*;
-use deposit_pool::Pool;
 use gate::Holding;
-use owner_map::OwnerMap;
-use place_core::Place;
-use platform_trait::Opening;
-use region_core::Region;
-use rmp_table::PackedRmp;
+use history_core::of_place;
+use place_core::{Place, open_places, open_regions};
 use std::alloc::Global;
 use std::sync::Wait;
 use std::test::Fail;
 use std::thread::Threads;
-use svsm_steps::{Answer, PlaceState, Step};
-use svsm_types::{Gpa, NoMemory, Owner, Page, PageState, Perms, RmpRow, Sequence, Vmpl, region_of};
-use vcpu_registry::Registry;
-
-// The module has a region that both cores use, and one for each core alone.
-const REGIONS: u64 = 3;
-
-// A page that is validated, and to which VMPL 2 has all rights.
-const OPEN: PageState = PageState {
-    assigned: true,
-    validated: true,
-    rights: [Perms(0), Perms(15), Perms(0)],
-    vmsa: false,
+use svsm_steps::{Caller, CoreEnd, Outcome, PlaceState};
+use svsm_types::{
+    CoreLine, Gpa, HwState, Image, NoMemory, Owner, Page, Range, Request, Sequence, Vmpl,
 };
 
-fn open_pages(alloc: Global) -> Result<Sequence<PageState>, NoMemory>
-    ensures { IfOk result (λ pages. pages ≡ replicate 512 OPEN) }
+fn image(alloc: Global) -> Result<Image, NoMemory>
+    ensures image { IfOk result (λ image. image ≡ small) }
 {
-    let mut pages = Vec::new(alloc);
-    pages.resize(512, OPEN)?;
-    Ok(Sequence::from_vec(pages))
-}
-
-// A region that is all of the guest and open to it.
-fn open_region(alloc: Global, number: u64) -> Result<Region<PackedRmp>, NoMemory>
-    requires { number < 3 }
-    ensures { IfOk result (λ region. (packed_known region.scene).region ≡ number) }
-{
-    let opening = Opening {
-        pages: open_pages(alloc)?,
-        large: false,
-        words: Sequence::new(alloc),
+    let ghcb = Range {
+        first: Page(5),
+        count: 1,
+        owner: Owner::Module,
+        state: HwState::Assigned,
+        rights: 0,
     };
-    let first = Page(512 * number);
-    let scene = PackedRmp::new(alloc, first, &opening, &[])?;
-    let owners = OwnerMap::new(alloc, &[Owner::Guest; 512], &[true; 512])?;
-    Ok(Region::new(first, scene, owners))
+    let ranges = Sequence::from_vec(vec![in alloc; ghcb]?);
+    let first = CoreLine {
+        apic: 0,
+        seat: None,
+    };
+    let second = CoreLine {
+        apic: 1,
+        seat: None,
+    };
+    let cores = Sequence::from_vec(vec![in alloc; first, second]?);
+    Ok(Image {
+        regions: 3,
+        vmpl: Vmpl(2),
+        features: 1,
+        ghcb: Page(5),
+        ranges,
+        large: Sequence::new(alloc),
+        accepts: Sequence::new(alloc),
+        cores,
+        fills: Sequence::new(alloc),
+        faults: Sequence::new(alloc),
+        host: Sequence::new(alloc),
+    })
 }
 
-// Adds the place with the next number.
-fn add(places: &mut Vec<Place>, place: Place) -> Result<(), NoMemory>
-    requires fresh { AreFresh ⟦<Place as PlaceState>⟧ 3 places.old.items }
-    requires next { IsFresh ⟦<Place as PlaceState>⟧ 3 (length places.old.items) place }
-    ensures count { OnOk result (length places.new.items ≡ length places.old.items + 1) }
-    ensures fresh { OnOk result (AreFresh ⟦<Place as PlaceState>⟧ 3 places.new.items) }
+fn places(alloc: Global, image: &Image) -> Result<Vec<Place>, NoMemory>
+    requires { image.now ≡ small }
+    ensures count { IfOk result (λ places. length places.items ≡ image.now.regions + 2) }
+    ensures fresh { IfOk result (λ places. EachPlace places.items (IsFresh image.now.regions (apics_of places.items))) }
 {
-    places.push(place)?;
-    Ok(())
-}
-
-fn open_places(alloc: Global) -> Result<Vec<Place>, NoMemory>
-    ensures count { IfOk result (λ places. length places.items ≡ 5) }
-    ensures fresh { IfOk result (λ places. AreFresh ⟦<Place as PlaceState>⟧ 3 places.items) }
-{
-    let mut places = Vec::new(alloc);
-    for number in 0..REGIONS {
-        let region = open_region(alloc, number)?;
-        add(&mut places, Place::new_region(alloc, REGIONS, region)?)?;
-    }
-    add(
-        &mut places,
-        Place::new_pool(alloc, REGIONS, Pool::new(alloc))?,
-    )?;
-    let registry = Registry::new(alloc, &[])?;
-    add(&mut places, Place::new_registry(alloc, REGIONS, registry)?)?;
+    let regions = open_regions(alloc, image)?;
+    let places = open_places(alloc, image, regions)?;
     Ok(places)
 }
 
-// The host shares a page of the core's own region. Then the first core reads the word that the second writes in the common
-// region.
+fn caller(core: u32) -> Caller
+    ensures { result ≡ caller core }
+{
+    Caller {
+        core,
+        apic: core,
+        vmpl: Vmpl(2),
+        caa: Gpa(0x10000),
+        regions: 3,
+        features: 1,
+    }
+}
+
+// Each core shares a page of a region that it alone uses, and then one of the region that both use.
+fn scripts(alloc: Global) -> Result<Vec<Sequence<Request>>, NoMemory>
+    ensures { IfOk result (λ scripts. AreScripts scripts.items) }
+{
+    let first = vec![in alloc;
+        Request::Share { page: Page(513) },
+        Request::Share { page: Page(1) },
+    ]?;
+    let second = vec![in alloc;
+        Request::Share { page: Page(1025) },
+        Request::Share { page: Page(2) },
+    ]?;
+    Ok(vec![in alloc; Sequence::from_vec(first), Sequence::from_vec(second)]?)
+}
+
 fn two_cores<R: Threads + Wait + Sync>(
     rt: &R,
     alloc: Global,
     gate: &Holding,
-) -> Option<(Vec<Place>, Ran, Ran)> {
-    let places = open_places(alloc).ok()?;
-    let vmpl = Vmpl(2);
-    let gpa = Gpa(8);
-    let first = [
-        Step::HostShare { page: Page(513) },
-        Step::GuestRead { vmpl, gpa },
-    ];
-    let second = [
-        Step::HostShare { page: Page(1025) },
-        Step::GuestWrite {
-            vmpl,
-            gpa,
-            word: 41,
-        },
-    ];
-    run_both(rt, alloc, gate, REGIONS, places, &first, &second).ok()
-}
-
-// What stands of a page, where the place is its region.
-fn row_in(place: &Place, page: Page) -> Option<RmpRow> {
-    let region = place.region()?;
-    if region.scene.number() != region_of(page) {
-        return None;
-    }
-    Some(region.row(page))
+) -> Result<Wave, NoMemory> {
+    let image = image(alloc)?;
+    let places = places(alloc, &image)?;
+    let scripts = scripts(alloc)?;
+    let callers = [caller(0), caller(1)];
+    run_wave(rt, alloc, gate, &image, &scripts, 7, places, &callers)
 }
 
 #[test]
 fn a_held_core_steps_after_the_other(rt: HostRuntime) -> Result<(), Fail> {
-    // The second core comes to its second step, and has the common region, before the first makes a step.
+    // Core 1 comes to its second step of the wave, and has the common region, before core 0 makes a step.
     let gate = Holding::new(0, 2);
-    let (places, first, second) = two_cores(&rt, rt.alloc(), &gate).ok_or("memory")?;
+    let wave = two_cores(&rt, rt.alloc(), &gate)?;
     assert!(rt; !gate.is_late());
-    assert!(rt; first.whole && second.whole);
-    let first = first.told.as_slice();
-    let second = second.told.as_slice();
-    assert_eq!(rt; (first.len(), second.len(), places.len()), (2, 2, 5));
-    assert_eq!(rt; (second[0].ticket, second[0].answer), (0, Answer::Done));
-    assert_eq!(rt;
-        (first[0].answer, second[1].answer),
-        (Answer::Done, Answer::Done)
-    );
-    assert_eq!(rt; (first[1].ticket, first[1].answer), (3, Answer::Word(41)));
-    let own = row_in(&places[1], Page(513)).ok_or("a region")?;
-    let other = row_in(&places[2], Page(1025)).ok_or("a region")?;
-    let kept = row_in(&places[2], Page(1026)).ok_or("a region")?;
-    assert!(rt; !own.state.assigned && !other.state.assigned && kept.state.assigned);
-    assert_eq!(rt; places[0].entries().len(), 2);
+    let [first, second] = wave.runs.as_slice() else {
+        panic!(&rt; "there are two runs")
+    };
+    assert_eq!(rt; (first.core, first.end), (0, CoreEnd::Done));
+    assert_eq!(rt; (second.core, second.end), (1, CoreEnd::Done));
+    let both = [Outcome::Done, Outcome::Done];
+    assert_eq!(rt; first.outcomes.as_slice(), both.as_slice());
+    assert_eq!(rt; second.outcomes.as_slice(), both.as_slice());
+    assert_eq!(rt; (wave.history.len(), wave.places.len()), (6, 5));
+    assert_eq!(rt; (wave.history[0].core, wave.history[0].place), (1, 2));
+    let common = of_place(rt.alloc(), &wave.history, 0)?;
+    assert_eq!(rt; common.len(), 2);
+    assert_eq!(rt; (common[0].core, common[1].core), (1, 0));
+    assert!(rt; wave.places.iter().all(|place| place.entries().is_empty()));
     Ok(())
 }

@@ -186,7 +186,8 @@ impl PlaceState for Place {
     ghost use Rattle.svsm_steps.specs.Formed.{IsAnswer};
     ghost use Rattle.svsm_steps.specs.Lawful.{IsAskedOf, IsAbove, IsLawful, pending_of};
     ghost use Rattle.svsm_steps.specs.declared.step.Step.{Step};
-    ghost use Rattle.place_core.specs.Kinds.{value_of};
+    ghost use Rattle.svsm_steps.specs.PlaceFaults.{FollowsAt};
+    ghost use Rattle.place_core.specs.Kinds.{value_of, numbers_of};
 
     ghost number = { λ p. p.number };
 
@@ -195,6 +196,8 @@ impl PlaceState for Place {
     ghost apics = { λ p. p.apics };
 
     ghost opening = { λ p. value_of p.opening };
+
+    ghost numbers = { λ p. numbers_of p.opening };
 
     ghost state = { λ p. value_of p.kind };
 
@@ -210,6 +213,7 @@ impl PlaceState for Place {
         ensures regions { self.new.regions ≡ self.old.regions }
         ensures apics { self.new.apics ≡ self.old.apics }
         ensures opening { self.new.opening ≡ self.old.opening }
+        ensures numbers { numbers_of self.new.opening ≡ numbers_of self.old.opening }
         ensures log { self.new.log ≡ self.old.log }
         ensures pending { self.new.pending ≡ self.old.pending }
         ensures state { value_of self.new.kind ≡ value_of self.old.kind }
@@ -236,6 +240,7 @@ impl PlaceState for Place {
         ensures regions { self.new.regions ≡ self.old.regions }
         ensures apics { self.new.apics ≡ self.old.apics }
         ensures opening { self.new.opening ≡ self.old.opening }
+        ensures numbers { numbers_of self.new.opening ≡ numbers_of self.old.opening }
         ensures log { self.new.log ≡ self.old.log }
         ensures spare { self.new.spare ≡ self.old.spare }
         ensures answer { IsAnswer self.old.regions step.now result }
@@ -264,6 +269,7 @@ impl PlaceState for Place {
         ensures regions { self.new.regions ≡ self.old.regions }
         ensures apics { self.new.apics ≡ self.old.apics }
         ensures opening { self.new.opening ≡ self.old.opening }
+        ensures numbers { numbers_of self.new.opening ≡ numbers_of self.old.opening }
         ensures log { self.new.log ≡ self.old.log ++ entry ∷ [] }
         ensures state { value_of self.new.kind ≡ value_of self.old.kind }
         ensures pending { self.new.pending ≡ None }
@@ -277,6 +283,7 @@ impl PlaceState for Place {
     fn entries(&self) -> &[Entry]
         ensures log { result.now ≡ self.now.log }
         ensures law { IsLawful self.now.apics (value_of self.now.opening) self.now.log self.now.pending (value_of self.now.kind) }
+        ensures due { FollowsAt self.now.apics (numbers_of self.now.opening) (value_of self.now.opening) self.now.log }
     {
         self.kept.log.as_slice()
     }

@@ -7,6 +7,7 @@ use native.Mathlib.Decide.{ℕ_discrete}
 use lib.ListN.{get_elem?}
 use Rattle.std.proofs.lemmas.Bool.{eqb-true}
 use Rattle.atomic_table.specs.Table.{State, Final, Seen}
+use Rattle.svsm_types.specs.Numbers.{Numbers}
 use Rattle.svsm_steps.specs.declared.entry.Entry.{Entry}
 use Rattle.svsm_steps.specs.declared.place_state.Pending.{Pending}
 use Rattle.svsm_steps.specs.declared.place_state.PlaceState.{Ghosts}
@@ -14,6 +15,7 @@ use Rattle.svsm_steps.specs.Formed.{AreWellFormed}
 use Rattle.svsm_steps.specs.Histories.{HaveTheirPlaces}
 use Rattle.svsm_steps.specs.Lawful.{IsLawful, IsReplayOf, AreBelow}
 use Rattle.svsm_steps.specs.Made.{made_of}
+use Rattle.svsm_steps.specs.PlaceFaults.{FollowsAt}
 use Rattle.svsm_steps.specs.Places.{PlaceValue, of_place}
 use Rattle.range_locks.specs.declared.view.Joined.{Joined}
 use Rattle.range_locks.specs.declared.view.Hand.TheVariants.{Held}
@@ -31,6 +33,11 @@ at_rest : (a a' : List ℕ) (o o' : PlaceValue) (log : List Entry) (pending : Op
 at_rest a a' o o' log pending state apics opening is h =
     let now : IsLawful a' o' log None state = subst (λ (z : List ℕ × PlaceValue × Option Pending). IsLawful z.0 z.1 log z.2 state) (λ i. (apics i, opening i, is i)) h in
     record { is_replay = now.log_is; ends = now.state_is }
+
+-- so its faults were due by the numbers that it was given with
+follows_from : (a a' : List ℕ) (n n' : Numbers) (o o' : PlaceValue) (log : List Entry) → a ≡ a' → n ≡ n' → o ≡ o' → FollowsAt a n o log → FollowsAt a' n' o' log
+follows_from a a' n n' o o' log apics numbers opening h =
+    subst (λ (z : List ℕ × Numbers × PlaceValue). FollowsAt z.0 z.1 z.2 log) (λ i. (apics i, numbers i, opening i)) h
 
 module _ {P : Type 0} (m : Ghosts P) (given : List P) where
   abbrev Rule : State (Option P) (View P) → Type 0
@@ -67,8 +74,9 @@ module _ {P : Type 0} (m : Ghosts P) (given : List P) where
     pub closes : (regions : ℕ) (places : List P) → regions + 2 ≡ length given → length places ≡ length xs
         → ((p : ℕ) (x : P) → get_elem? places p ≡ some x → get_elem? xs p ≡ some (Some x))
         → ((p : ℕ) (x : P) → get_elem? places p ≡ some x → IsLawful (m.apics x) (m.opening x) (m.log x) (m.pending x) (m.state x))
+        → ((p : ℕ) (x : P) → get_elem? places p ≡ some x → FollowsAt (m.apics x) (m.numbers x) (m.opening x) (m.log x))
         → IsClosed m regions given n (map made_in joined) places
-    closes regions places sized long same lawful =
+    closes regions places sized long same lawful due =
         let s = f.0 in let r = f.1.0 in
         let mine = knows m given s r id v (First n joined) f.1.1 is in
         let made_is : n ≡ r.count = mine.1 in
@@ -90,9 +98,11 @@ module _ {P : Type 0} (m : Ghosts P) (given : List P) where
                 regions_is = omega arith;
                 apics_is = home.0.apics_is old there;
                 opening_is = home.0.opening_is old there;
+                numbers_is = home.0.numbers_is old there;
                 at_rest = home.0.at_rest;
                 log_is = home.1;
                 state_is = at_rest (m.apics x) (m.apics old) (m.opening x) (m.opening old) (m.log x) (m.pending x) (m.state x) (home.0.apics_is old there) (home.0.opening_is old there) home.0.at_rest (lawful p x at);
+                due = follows_from (m.apics x) (m.apics old) (m.numbers x) (m.numbers old) (m.opening x) (m.opening old) (m.log x) (home.0.apics_is old there) (home.0.numbers_is old there) (home.0.opening_is old there) (due p x at);
               };
           each_core = runs s.words r.history r.count r.owner r.holder id joined mine.2;
           no_other = λ c le. ap (λ (l : List Entry). map made_of l) (r.unmade c (omega arith));

@@ -218,8 +218,8 @@ module _ {P : Type 0} (m : Ghosts P) (given : List P) where
 
   -- free: the seat puts the place back
   freed_one : (s : St) (r : Rule s) (id p c : ℕ) (own held : List Entry) (v : V) (x y : P) → get_elem? s.views id ≡ some v → v ≡ Core c own (Held p x held)
-      → m.number y ≡ m.number x → m.regions y ≡ m.regions x → m.apics y ≡ m.apics x → m.opening y ≡ m.opening x → m.pending y ≡ None → m.log y ≡ held → Rule (stepped s (p + 1) 0 id ((p, Some y) ∷ []) (Core c own Free) gives)
-  freed_one s r id p c own held v x y at is same_number same_regions same_apics same_opening rests logged =
+      → m.number y ≡ m.number x → m.regions y ≡ m.regions x → m.apics y ≡ m.apics x → m.opening y ≡ m.opening x → m.numbers y ≡ m.numbers x → m.pending y ≡ None → m.log y ≡ held → Rule (stepped s (p + 1) 0 id ((p, Some y) ∷ []) (Core c own Free) gives)
+  freed_one s r id p c own held v x y at is same_number same_regions same_apics same_opening same_numbers rests logged =
       let w : V = Core c own Free in
       let ws : List ℕ = set s.words (p + 1) 0 in
       let hs : Homes = set s.homes p (some (Some y)) in
@@ -253,6 +253,7 @@ module _ {P : Type 0} (m : Ghosts P) (given : List P) where
                   regions_is = ap (λ (k : ℕ). k + 2) same_regions ∙ hand.3.regions_is;
                   apics_is = λ z g. same_apics ∙ hand.3.apics_is z g;
                   opening_is = λ z g. same_opening ∙ hand.3.opening_is z g;
+                  numbers_is = λ z g. same_numbers ∙ hand.3.numbers_is z g;
                   at_rest = rests;
                 },
                 logged ∙ hand.4,
@@ -271,13 +272,13 @@ module _ {P : Type 0} (m : Ghosts P) (given : List P) where
       }
 
   pub free_allows : (slots id : ℕ) (me : M) (p c : ℕ) (own held : List Entry) (x y : P) → me.0 ≡ Core c own (Held p x held) → me.1 ≡ (p, Some y) ∷ []
-      → m.number y ≡ m.number x → m.regions y ≡ m.regions x → m.apics y ≡ m.apics x → m.opening y ≡ m.opening x → m.pending y ≡ None → m.log y ≡ held
+      → m.number y ≡ m.number x → m.regions y ≡ m.regions x → m.apics y ≡ m.apics x → m.opening y ≡ m.opening x → m.numbers y ≡ m.numbers x → m.pending y ≡ None → m.log y ≡ held
       → Allows Rule slots id me (p + 1) (λ _. 0) (λ _. Freed (step slots (p + 1) 0 0 none) me 0)
-  free_allows slots id me p c own held x y is has same_number same_regions same_apics same_opening rests logged s r deep at fits = (
+  free_allows slots id me p c own held x y is has same_number same_regions same_apics same_opening same_numbers rests logged s r deep at fits = (
     Core c own Free,
     gives,
     tt,
-    subst (λ (cs : List (ℕ × Option P)). Rule (stepped s (p + 1) 0 id cs (Core c own Free) gives)) (sym has) (freed_one s r id p c own held me.0 x y at is same_number same_regions same_apics same_opening rests logged),
+    subst (λ (cs : List (ℕ × Option P)). Rule (stepped s (p + 1) 0 id cs (Core c own Free) gives)) (sym has) (freed_one s r id p c own held me.0 x y at is same_number same_regions same_apics same_opening same_numbers rests logged),
     λ c' p' own' held' x' is'. let rest_is : carried_after me.1 gives ≡ [] = ap (λ (cs : List (ℕ × Option P)). carried_after cs gives) has in cc,
   )
 
@@ -361,6 +362,7 @@ module _ {P : Type 0} (m : Ghosts P) (given : List P) where
           let ys : y ≡ y' = ap (λ (l : List (ℕ × Option P)). front l y) (sym has ∙ has') in let qs : q ≡ q' = cc in cc,
           subst (λ (l : List Entry). IsAbove n l) (let hs : held ≡ held' = cc in sym mine.4.4 ∙ hs) (above 0 n (λ (e : Entry). e.place == p) r.history r.in_order.tickets (omega arith)),
           subst (λ (l : List Entry). IsAbove n l) (let os : own ≡ own' = cc in sym mine.3 ∙ os) (above 0 n (λ (e : Entry). e.core == c) r.history r.in_order.tickets (omega arith)),
+          omega arith,
         ),
       )
 
@@ -400,6 +402,7 @@ module _ {P : Type 0} (m : Ghosts P) (given : List P) where
           regions_is = ap (λ (n : ℕ). n + 2) e.regions_is ∙ sym long;
           apics_is = λ y at. ap m.apics (some-injective h.0 y (sym h.1 ∙ at));
           opening_is = λ y at. ap m.opening (some-injective h.0 y (sym h.1 ∙ at));
+          numbers_is = λ y at. ap m.numbers (some-injective h.0 y (sym h.1 ∙ at));
           at_rest = e.at_rest;
         },
         e.empty_log,

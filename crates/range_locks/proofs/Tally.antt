@@ -8,7 +8,10 @@ use Rattle.svsm_steps.specs.declared.answer.Answer.TheVariants.{Done, Word, Deni
 use Rattle.svsm_steps.specs.declared.entry.Entry.{Entry}
 use Rattle.svsm_steps.specs.declared.place_state.Pending.{Pending}
 use Rattle.svsm_steps.specs.State.{RegionState}
-use Rattle.svsm_steps.specs.Region.{MayAnswer, region_after}
+use Rattle.svsm_types.specs.Numbers.{Numbers}
+use Rattle.svsm_steps.specs.Region.{MayAnswer, region_after, fault_at}
+use Rattle.svsm_steps.specs.DueFaults.{region_due, region_numbers}
+use Rattle.svsm_steps.specs.PlaceFaults.{FollowsAt}
 use Rattle.svsm_steps.specs.Lawful.{IsLawful, MayPend, pending_of}
 use Rattle.svsm_steps.specs.Places.{PlaceValue, in_region, place_after, IsReplay, replay}
 use Rattle.range_locks.specs.Tally.{is_of_host, is_done, are_of_host, is_pending_of_host, shared_region, tallied}
@@ -90,3 +93,40 @@ lawful log pending logged waits = record { state_is = refl; log_is = legal log _
 -- what was pending is in the log
 pub put_same : (log : List Entry) (pending : Option Pending) (e : Entry) → pending ≡ Some (pending_of e) → replay [] shared_region (log ++ e ∷ []) ≡ tallied log pending
 put_same log pending e is = replay_on [] shared_region log e ∙ ap (λ (p : Option Pending). tallied log p) (sym is)
+
+-- a step of the host has no operation, so it is not due to fault
+done_due : (numbers : Numbers) (r : RegionState) (step : Step) → is_of_host step ≡ true → fault_at Done ≡ region_due numbers r step
+done_due numbers r (HostShare page) h = refl
+done_due numbers r (HostAssign page) h = refl
+done_due numbers r (GuestWrite vmpl gpa word) h = absurd (cc)
+done_due numbers r (GuestPend vmpl gpa) h = absurd (cc)
+done_due numbers r (GuestRead vmpl gpa) h = absurd (cc)
+done_due numbers r (GuestAdjust vmpl page target mask) h = absurd (cc)
+done_due numbers r (TakePending vmpl gpa) h = absurd (cc)
+done_due numbers r (LoadWord vmpl gpa) h = absurd (cc)
+done_due numbers r (StoreNext vmpl gpa next) h = absurd (cc)
+done_due numbers r (StoreEntry vmpl gpa word) h = absurd (cc)
+done_due numbers r (SetAvail vmpl gpa on) h = absurd (cc)
+done_due numbers r (ClearCaa vmpl gpa) h = absurd (cc)
+done_due numbers r (Validate vmpl page size on) h = absurd (cc)
+done_due numbers r (Deposit vmpl page size) h = absurd (cc)
+done_due numbers r (Release vmpl page size) h = absurd (cc)
+done_due numbers r (VmsaTake vmpl page features) h = absurd (cc)
+done_due numbers r (VmsaDrop vmpl page) h = absurd (cc)
+done_due numbers r (PoolPush page size) h = absurd (cc)
+done_due numbers r (PoolPop size) h = absurd (cc)
+done_due numbers r (Reserve apic page caa) h = absurd (cc)
+done_due numbers r (Commit page) h = absurd (cc)
+done_due numbers r (Cancel page) h = absurd (cc)
+done_due numbers r (Retire page) h = absurd (cc)
+done_due numbers r (Remap apic caa) h = absurd (cc)
+done_due numbers r (Enter apic) h = absurd (cc)
+done_due numbers r (Leave apic) h = absurd (cc)
+
+due_of : (numbers : Numbers) (r : RegionState) (step : Step) (answer : Answer) → (is_of_host step && is_done answer) ≡ true → fault_at answer ≡ region_due numbers r step
+due_of numbers r step answer h =
+    subst (λ (a : Answer). fault_at a ≡ region_due numbers r step) (sym (done_is answer (both_right (is_of_host step) (is_done answer) h))) (done_due numbers r step (both_left (is_of_host step) (is_done answer) h))
+
+pub follows : (numbers : Numbers) (log : List Entry) (r : RegionState) → are_of_host log ≡ true → FollowsAt [] numbers (in_region r) log
+follows numbers [] r h = tt
+follows numbers (x ∷ xs) r h = (due_of numbers r x.step x.answer (both_left _ _ h), follows (region_numbers numbers r x.step x.answer) xs (region_after r x.step x.answer) (both_right _ _ h))

@@ -1,5 +1,5 @@
 -- What each move tells the pass that makes it. This project's own.
-use Rattle.std.specs.Prelude.{◌≡◌, ◌≢◌, ℕ, ◌+◌, List, [], ◌∷◌, ◌++◌, Option, Some, None}
+use Rattle.std.specs.Prelude.{◌≡◌, ◌≢◌, ℕ, ◌+◌, ◌^◌, ◌<◌, List, [], ◌∷◌, ◌++◌, Option, Some, None}
 use Rattle.atomic_table.specs.Table.{Me, Step}
 use Rattle.svsm_steps.specs.declared.entry.Entry.{Entry}
 use Rattle.svsm_steps.specs.declared.place_state.Pending.{Pending}
@@ -35,7 +35,8 @@ module _ {P : Type 0} where
       × (members.pending place ≡ None))
       × (found ≢ 0 → new ≡ old)
 
-  -- the drawing of a ticket: the pending step of the place in the slot has it, and it is above those of the log and of the pass
+  -- the drawing of a ticket: the pending step of the place in the slot has it, and it is above those of the log and of the
+  -- pass, and far from the end of its word
   abbrev pub Drew : Ghosts P → Move P → SeatState P → ℕ → SeatState P → Type 0
   Drew members move old found new =
       (core number : ℕ) (entries log : List Entry) (place moved : P) (pending : Pending)
@@ -50,6 +51,7 @@ module _ {P : Type 0} where
       ))
       × IsAbove found log
       × IsAbove found entries
+      × (found < 2 ^ 43)
 
   -- the freeing of a lock: the pass holds nothing
   abbrev pub Freed : Move P → SeatState P → ℕ → SeatState P → Type 0

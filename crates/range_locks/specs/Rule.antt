@@ -32,6 +32,7 @@ module _ {P : Type 0} (members : Ghosts P) where
     pub regions_is : members.regions place + 2 ≡ length given
     pub apics_is : (old : P) → get_elem? given number ≡ some old → members.apics place ≡ members.apics old
     pub opening_is : (old : P) → get_elem? given number ≡ some old → members.opening place ≡ members.opening old
+    pub numbers_is : (old : P) → get_elem? given number ≡ some old → members.numbers place ≡ members.numbers old
     pub at_rest : members.pending place ≡ None
 
   module _ (given : List P) (words : List ℕ) (history : List Entry) (count : ℕ) (owner holder : ℕ → ℕ) (seat : ℕ) where

@@ -3,6 +3,7 @@ use Rattle.std.specs.Prelude.{Bool, true, false, ◌&&◌, List, [], Option, Non
 use Rattle.std.specs.List.{list_all}
 use Rattle.svsm_types.specs.declared.owner.Owner.TheVariants.{Guest}
 use Rattle.svsm_types.specs.Hardware.{blank}
+use Rattle.svsm_types.specs.Numbers.{Numbers}
 use Rattle.svsm_steps.specs.declared.step.Step.{Step}
 use Rattle.svsm_steps.specs.declared.step.Step.TheVariants.{HostShare, HostAssign}
 use Rattle.svsm_steps.specs.declared.answer.Answer.{Answer}
@@ -44,6 +45,10 @@ shared_region = in_region record {
   owner = replicate 512 Guest;
   recorded = replicate 512 false;
 }
+
+-- no operation was made, and none is listed
+abbrev pub no_numbers : Numbers
+no_numbers = record { made = 0; faulting = [] }
 
 -- its state is the replay of its steps
 abbrev pub tallied : List Entry → Option Pending → PlaceValue

@@ -4,6 +4,7 @@ ghost use Rattle.std.specs.Slots.{slots_items, slots_len, IsFull};
 ghost use mathlib.Core.Option.{some};
 ghost use lib.ListN.{get_elem?};
 ghost use Rattle.svsm_steps.specs.Lawful.{IsLawful};
+ghost use Rattle.svsm_steps.specs.PlaceFaults.{FollowsAt};
 
 use atomic_table::Closed;
 use std::alloc::Global;
@@ -42,7 +43,8 @@ pub(crate) fn unfill<P>(mut slots: Vec<Option<P>>, mut places: Vec<P>) -> Vec<P>
     places
 }
 
-// Moves them back out of the slots of a closed table. Each place says by its entries that it is lawful.
+// Moves them back out of the slots of a closed table. Each place says by its entries that it is lawful, and
+// that each fault in them was due.
 pub(crate) fn refill<P: PlaceState>(
     mut closed: Closed<Option<P>, Global>,
     mut kept: Vec<P>,
@@ -55,6 +57,8 @@ pub(crate) fn refill<P: PlaceState>(
     ensures long { length result.items ≡ slots_len closed.slots }
     ensures lawful { (p : ℕ) (x : P) → get_elem? result.items p ≡ some x
         → IsLawful (P.apics x) (P.opening x) (P.log x) (P.pending x) (P.state x) }
+    ensures due { (p : ℕ) (x : P) → get_elem? result.items p ≡ some x
+        → FollowsAt (P.apics x) (P.numbers x) (P.opening x) (P.log x) }
     ensures same { (p : ℕ) (x : P) → get_elem? result.items p ≡ some x
         → get_elem? (slots_items closed.slots) p ≡ some (Some x) }
 {

@@ -14,8 +14,24 @@ use crate::rule::{LockSeat, SharedTable};
 use std::alloc::Global;
 use std::sync::Wait;
 use std::thread;
+use std::time::Duration;
 use svsm_steps::{Answer, Entry, Gate, Pending, PlaceState, Step, place_of};
 use svsm_types::NoMemory;
+
+// How often a core tries a lock at once, before it sleeps between two tries.
+const TRIES: u64 = 100;
+
+// How long it sleeps.
+const MICROSECONDS: u64 = 50;
+
+// Waits before the next try of a lock.
+fn wait_a_little<R: Wait>(rt: &R, tries: u64) {
+    if tries < TRIES {
+        thread::yield_now();
+    } else {
+        thread::Parker::new().park_timeout(rt, Duration::from_micros(MICROSECONDS));
+    }
+}
 
 // Takes the lock of a place, and tries until it has it. The seat then has the slot of the place.
 fn lock<P: PlaceState, R: Wait>(rt: &R, shared: &SharedTable<P>, seat: &mut LockSeat<P>, place: u64)
@@ -34,11 +50,13 @@ fn lock<P: PlaceState, R: Wait>(rt: &R, shared: &SharedTable<P>, seat: &mut Lock
         × (P.regions x + 2 ≡ shared.now.table_id.slots)
         × (P.pending x ≡ None) }
 {
+    let mut tries: u64 = 0;
     for _ in rt.forever() {
         if shared.compare_exchange::<Take>(seat, place as usize + 1, 0, 1) == 0 {
             return;
         }
-        thread::yield_now();
+        wait_a_little(rt, tries);
+        tries = tries.saturating_add(1);
     }
     unreachable!()
 }
@@ -80,6 +98,7 @@ fn release<P: PlaceState>(shared: &SharedTable<P>, seat: &mut LockSeat<P>, place
         × (P.regions value ≡ P.regions x)
         × (P.apics value ≡ P.apics x)
         × (P.opening value ≡ P.opening x)
+        × (P.numbers value ≡ P.numbers x)
         × (P.pending value ≡ None) }
     ensures table { (seat.new.table_id ≡ seat.old.table_id) × (seat.new.id ≡ seat.old.id) }
     ensures idle { seat.new.me ≡ (Core (core_in seat.old.me.0) (entries_in seat.old.me.0) Free, []) }
@@ -121,7 +140,8 @@ fn draw<P: PlaceState>(
           (place, None) ∷ [],
         ))
         × IsAbove result.0 log
-        × IsAbove result.0 (entries_in seat.old.me.0) }
+        × IsAbove result.0 (entries_in seat.old.me.0)
+        × (result.0 < 2 ^ 43) }
 {
     put_in(shared, seat, place, value);
     let ticket = shared.fetch_add::<Draw>(seat, 0, 1);
@@ -160,6 +180,7 @@ pub(crate) fn make<P: PlaceState, R: Wait, G: Gate>(
           [],
         )) }
     ensures later { IfOk result (λ told. IsAbove told.0 (entries_in seat.old.me.0)) }
+    ensures far { IfOk result (λ told. told.0 < 2 ^ 43) }
     ensures answer { IfOk result (λ told. IsAnswer regions step.now told.1) }
     ensures err { OnErr result (seat.new.me ≡ seat.old.me) }
 {

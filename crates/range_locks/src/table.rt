@@ -32,7 +32,7 @@ pub struct LockTable<P: PlaceState> {
 }
 
 impl<P: PlaceState + Send> LockTable<P> {
-    ghost use Rattle.range_locks.specs.Passes.{IsFresh, IsPassOf, IsLater, regions_of, given_of, is_split, is_first, core_of, own_of, count_of, joined_of, is_joined};
+    ghost use Rattle.range_locks.specs.Passes.{IsFresh, IsPassOf, regions_of, given_of, is_split, is_first, core_of, own_of, count_of, joined_of, is_joined};
     ghost use Rattle.range_locks.specs.Closed.{IsClosed};
 
     /// A table of these places, and its first pass. At want of memory the places come back.
@@ -118,6 +118,26 @@ impl<P: PlaceState + Send> LockTable<P> {
         shared.join_seat::<JoinPass>(&mut first.seat, seat);
     }
 
+    /// Gives the places back, where all split passes were joined. It takes no memory.
+    pub fn close(self, first: Pass<P>) -> Vec<P>
+        requires table { IsPassOf self first }
+        requires first { is_first first ≡ true }
+        requires all { (core : ℕ) → core < count_of first → is_joined core (joined_of first) ≡ true }
+        ensures closed { IsClosed P.PlaceState (regions_of self) (given_of self) (count_of first) (joined_of first)
+            result.items }
+    {
+        let LockTable {
+            table,
+            regions: _,
+            kept,
+        } = self;
+        refill(table.close_with(first.into_seat()), kept)
+    }
+}
+
+impl<P: PlaceState> LockTable<P> {
+    ghost use Rattle.range_locks.specs.Passes.{IsPassOf, IsLater, regions_of, is_split, core_of, own_of};
+
     /// Makes a step of a split pass: its ticket and its answer. It waits for the step's place. At want of memory no ticket
     /// is drawn, and the place is free again.
     pub fn do_step<R: Wait, G: Gate>(
@@ -138,6 +158,7 @@ impl<P: PlaceState + Send> LockTable<P> {
         ensures made { IfOk result (λ told. own_of pass.new
             ≡ own_of pass.old ++ record { ticket = told.0; step = step.now; answer = told.1 } ∷ []) }
         ensures later { IfOk result (λ told. IsLater told.0 (own_of pass.old)) }
+        ensures far { IfOk result (λ told. told.0 < 2 ^ 43) }
         ensures answer { IfOk result (λ told. IsAnswer (regions_of self.now) step.now told.1) }
         ensures err { OnErr result (own_of pass.new ≡ own_of pass.old) }
     {
@@ -156,21 +177,5 @@ impl<P: PlaceState + Send> LockTable<P> {
         )?;
         pass.made += 1;
         Ok(told)
-    }
-
-    /// Gives the places back, where all split passes were joined. It takes no memory.
-    pub fn close(self, first: Pass<P>) -> Vec<P>
-        requires table { IsPassOf self first }
-        requires first { is_first first ≡ true }
-        requires all { (core : ℕ) → core < count_of first → is_joined core (joined_of first) ≡ true }
-        ensures closed { IsClosed P.PlaceState (regions_of self) (given_of self) (count_of first) (joined_of first)
-            result.items }
-    {
-        let LockTable {
-            table,
-            regions: _,
-            kept,
-        } = self;
-        refill(table.close_with(first.into_seat()), kept)
     }
 }

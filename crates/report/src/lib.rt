@@ -5,6 +5,7 @@ mod cores;
 mod history;
 mod law;
 mod pages;
+mod summary;
 mod text;
 mod whole;
 
@@ -12,6 +13,7 @@ pub use cores::put_report;
 pub use history::put_history;
 pub use law::runs_tell_pages;
 pub use pages::put_rmp;
+pub use summary::{count_replies, count_valid, put_summary, summary_of};
 pub use text::{put_newline, put_number, put_text, put_word};
 pub use whole::report_of;
 

@@ -3,7 +3,7 @@ ghost use Rattle.std.specs.Prelude.{◌≡◌, ◌≤◌, ◌⊎◌, ◌↔◌, 
 ghost use Rattle.std.specs.IoError.{error_kind};
 ghost use Rattle.svsm_steps.specs.declared.entry.Entry.{Entry};
 ghost use Rattle.svsm_outside.specs.Outside.{Tells};
-ghost use Rattle.command_words.specs.Words.{run_in};
+ghost use Rattle.run_core_top.specs.Task.{task_in};
 ghost use Rattle.run_core_top.specs.Headline.{Headline, IsCutOff, StopsWith};
 ghost use Rattle.run_core_top.specs.Program.{after_name};
 
@@ -49,7 +49,7 @@ fn run_line<R: Threads + Wait + Sync, S: Shelf, W: Sink, E: Sink, G: Gate + Sync
     err: &mut E,
     gate: &G,
 ) -> u8
-    ensures words { (result ≡ 2) ↔ (run_in (after_name (map string_bytes line.now)) ≡ None) }
+    ensures words { (result ≡ 2) ↔ (task_in (after_name (map string_bytes line.now)) ≡ None) }
     ensures done { result ≤ 1 → (trace : List Entry) × Headline (S.seen shelf.old) (after_name (map string_bytes line.now)) (W.seen out.old) (W.seen out.new) result trace }
     ensures cut_off { result ≡ 6 → (trace : List Entry) × IsCutOff (S.seen shelf.old) (after_name (map string_bytes line.now)) (W.seen out.old) (W.seen out.new) trace }
     ensures stop { (result ≤ 1) ⊎ (result ≡ 6) ⊎ StopsWith (S.seen shelf.old) (S.seen shelf.new) (after_name (map string_bytes line.now)) result
@@ -70,7 +70,7 @@ pub fn run_program<R: Threads + Wait + Sync, S: Shelf, W: Sink, E: Sink, G: Gate
 ) -> u8
     ensures memory { IfErr line.now (λ e. error_kind e ≡ ErrorKind.OutOfMemory → result ≡ 3) }
     ensures other { IfErr line.now (λ e. (error_kind e ≡ ErrorKind.OutOfMemory) ⊎ (result ≡ 9)) }
-    ensures words { IfOk line.now (λ line. (result ≡ 2) ↔ (run_in (after_name (map string_bytes line.items)) ≡ None)) }
+    ensures words { IfOk line.now (λ line. (result ≡ 2) ↔ (task_in (after_name (map string_bytes line.items)) ≡ None)) }
     ensures done { IfOk line.now (λ line. result ≤ 1 → (trace : List Entry) × Headline (S.seen shelf.old) (after_name (map string_bytes line.items)) (W.seen out.old) (W.seen out.new) result trace) }
     ensures cut_off { IfOk line.now (λ line. result ≡ 6 → (trace : List Entry) × IsCutOff (S.seen shelf.old) (after_name (map string_bytes line.items)) (W.seen out.old) (W.seen out.new) trace) }
     ensures stop { IfOk line.now (λ line. (result ≤ 1) ⊎ (result ≡ 6) ⊎ StopsWith (S.seen shelf.old) (S.seen shelf.new) (after_name (map string_bytes line.items)) result

@@ -1,7 +1,7 @@
 use super::*;
 use std::alloc::Global;
 use std::test::Fail;
-use svsm_types::{Gpa, Page, Regs, Request, Vmpl};
+use svsm_types::{CoreLine, Gpa, HwState, Owner, Page, Range, Regs, Request, Vmpl};
 
 fn put_words(out: &mut Vec<u8>, words: &[u64]) -> Result<(), Fail> {
     for word in words {
@@ -103,5 +103,108 @@ fn what_is_written_is_read(rt: HostRuntime) -> Result<(), Fail> {
     assert_eq!(rt; script.as_slice(), want.as_slice());
     let read = read_script(alloc, &script);
     assert!(rt; matches!(&read, Ok(requests) if requests.as_slice() == [adjust, call].as_slice()));
+    Ok(())
+}
+
+fn range(first: u64, count: u64, owner: Owner, state: HwState, rights: u16) -> Range {
+    Range {
+        first: Page(first),
+        count,
+        owner,
+        state,
+        rights,
+    }
+}
+
+#[test]
+fn a_generated_image_has_a_region_for_each_core(rt: HostRuntime) -> Result<(), Fail> {
+    let (image, _) = generate(rt.alloc(), 2, 1, 7)?;
+    assert_eq!(rt; image.regions, 3);
+    assert_eq!(rt; image.vmpl, Vmpl(2));
+    assert_eq!(rt; image.features, 1);
+    assert_eq!(rt; image.ghcb, Page(0x5));
+    let ranges = [
+        range(0x0, 0x5, Owner::Module, HwState::Valid, 0x0),
+        range(0x5, 0x1, Owner::Module, HwState::Assigned, 0x0),
+        range(0x6, 0xa, Owner::Module, HwState::Valid, 0x0),
+        range(0x10, 0x1, Owner::Vmsa, HwState::Valid, 0x0),
+        range(0x11, 0x1, Owner::Vmsa, HwState::Valid, 0x0),
+        range(0x200, 0x10, Owner::Guest, HwState::Valid, 0xf0),
+        range(0x210, 0x1f0, Owner::Guest, HwState::Assigned, 0x0),
+        range(0x400, 0x10, Owner::Guest, HwState::Valid, 0xf0),
+        range(0x410, 0x1f0, Owner::Guest, HwState::Assigned, 0x0),
+    ];
+    assert_eq!(rt; image.ranges.as_slice(), ranges.as_slice());
+    let cores = [
+        CoreLine {
+            apic: 0,
+            seat: Some((Page(0x10), Gpa(0x200000))),
+        },
+        CoreLine {
+            apic: 1,
+            seat: Some((Page(0x11), Gpa(0x400000))),
+        },
+    ];
+    assert_eq!(rt; image.cores.as_slice(), cores.as_slice());
+    assert_eq!(rt; image.large.len(), 0);
+    assert_eq!(rt; image.accepts.len(), 0);
+    assert_eq!(rt; image.fills.len(), 0);
+    assert_eq!(rt; image.faults.len(), 0);
+    assert_eq!(rt; image.host.len(), 0);
+    Ok(())
+}
+
+fn guest_writes(address: u64, word: u64) -> Request {
+    Request::Write {
+        vmpl: Vmpl(2),
+        gpa: Gpa(address),
+        word,
+    }
+}
+
+fn calls(list: u64) -> Request {
+    Request::Call {
+        regs: Regs {
+            rax: 1,
+            rcx: list,
+            rdx: 0,
+            r8: 0,
+            r9: 0,
+        },
+        poll: 0,
+    }
+}
+
+#[test]
+fn generated_scripts_take_the_values_of_the_congruence(rt: HostRuntime) -> Result<(), Fail> {
+    let (_, scripts) = generate(rt.alloc(), 2, 5, 7)?;
+    assert_eq!(rt; scripts.len(), 2);
+    let first = [
+        guest_writes(0x201000, 0x1),
+        guest_writes(0x201008, 0x3be00c),
+        calls(0x201000),
+        guest_writes(0x201000, 0x1),
+        guest_writes(0x201008, 0x2ff008),
+    ];
+    assert_eq!(rt; scripts[0].as_slice(), first.as_slice());
+    let second = [
+        guest_writes(0x401000, 0x1),
+        guest_writes(0x401008, 0x51400c),
+        calls(0x401000),
+        guest_writes(0x401000, 0x1),
+        guest_writes(0x401008, 0x52000c),
+    ];
+    assert_eq!(rt; scripts[1].as_slice(), second.as_slice());
+    Ok(())
+}
+
+#[test]
+fn the_congruence_begins_modulo_two_to_the_64(rt: HostRuntime) -> Result<(), Fail> {
+    let (_, scripts) = generate(rt.alloc(), 2, 2, u64::MAX)?;
+    let second = [
+        guest_writes(0x401000, 0x1),
+        guest_writes(0x401008, 0x50f008),
+    ];
+    assert_eq!(rt; scripts[1].as_slice(), second.as_slice());
     Ok(())
 }

@@ -1,5 +1,5 @@
 -- Places before their first step of a wave.
-use Rattle.std.proofs.Common.{◌≡◌, ℕ, ◌+◌, ◌<◌, ◌≤◌, List, [], ◌∷◌, length, refl, sym, ap, ◌∙◌, subst, arith}
+use Rattle.std.proofs.Common.{◌≡◌, ℕ, ◌+◌, ◌<◌, ◌≤◌, List, [], ◌∷◌, ◌++◌, length, refl, sym, ap, ◌∙◌, subst, append-nil, arith}
 use Rattle.std.specs.Prelude.{slice_index_or}
 use Rattle.std.proofs.lemmas.List.{get_or-map, length-map}
 use Rattle.svsm_types.specs.Numbers.{Numbers}
@@ -15,9 +15,11 @@ use Rattle.place_core.specs.Kinds.{value_of, numbers_of}
 use Rattle.place_core.specs.PlaceView.{PlaceView, new_place}
 use Rattle.place_core.specs.Opened.{IsOpened}
 use Rattle.place_core.specs.Turned.{TurnsView, EachPlace, IsFresh, apics_of, openings_of, AreClosed}
+use Rattle.svsm_waves.specs.Raised.{raised}
 use Rattle.svsm_waves.specs.Trace.{IsRecorded}
-use Rattle.svsm_waves.specs.InTurn.{IsKept, AreOpened, AreReopened, AreAtRest, reopened, trace_of}
-use Rattle.svsm_waves.specs.Joined.{recorded_now, opened_now}
+use Rattle.svsm_waves.specs.InTurn.{IsKept, AreBegun, AreOpened, AreReopened, AreAtRest, StandFor, reopened, trace_of}
+use Rattle.locked_places.specs.Wave.{StandAfterWave}
+use Rattle.svsm_waves.specs.Joined.{opened_now, recorded_now}
 use Rattle.svsm_waves.proofs.Reopened.{stand_again}
 
 -- THE POOL AND THE ROWS AT BOOT
@@ -44,11 +46,6 @@ first_apics : (apics : List ℕ) (places : List PlaceView) → 0 < length places
     → apics_of places ≡ apics
 first_apics apics [] some each = absurd (omega (arith, some))
 first_apics apics (place ∷ places) some each = each 0 place (omega arith)
-
--- places with their numbers, at rest, without a log
-pub record AreBegun (image : Image) (places : List PlaceView) : Type 0 where
-  pub count : length places ≡ image.regions + 2
-  pub each : EachPlace places (IsFresh image.regions (constants_of image).apics)
 
 pub begun_apics : (image : Image) (places : List PlaceView) → AreBegun image places → apics_of places ≡ (constants_of image).apics
 begun_apics image places begun =
@@ -136,17 +133,58 @@ again_begun image past turns closed opened kept all again = record {
       });
 }
 
--- and the places of the next wave keep the whole history
-pub kept_again : (image : Image) (past now : List Entry) (turns : TurnsView) (closed opened : List PlaceView) → IsKept image past turns → AreClosed turns closed
-    → AreReopened closed opened → now ≡ trace_of past turns
-    → IsKept image now (record { regions = image.regions; apics = apics_of opened; openings = openings_of opened; history = [] })
-kept_again image past now turns closed opened kept all again is =
-    subst (λ (l : List Entry). IsKept image l (record { regions = image.regions; apics = apics_of opened; openings = openings_of opened; history = [] }))
-    (sym is)
-    (kept_begun image (trace_of past turns) opened kept.least kept.most (recorded_now image past turns kept)
-    (again_begun image past turns closed opened kept all again)
-    (opened_now image past turns (openings_of opened) kept (stand_again turns closed opened all again)))
+-- and they stand for the whole history
+pub again_stand : (image : Image) (past now : List Entry) (turns : TurnsView) (closed opened : List PlaceView) → IsKept image past turns → AreClosed turns closed
+    → AreReopened closed opened → now ≡ trace_of past turns → StandFor image now opened
+again_stand image past now turns closed opened kept all again is =
+    subst (λ (l : List Entry). StandFor image l opened) (sym is)
+    (opened_now image past turns (openings_of opened) kept (stand_again turns closed opened all again))
 
 -- the closed places are at rest
 pub closed_rest : (turns : TurnsView) (closed : List PlaceView) → AreClosed turns closed → AreAtRest closed
 closed_rest turns closed all number none low = (all.each number none low).at_rest
+
+-- AFTER A WAVE
+
+-- the places of a wave of cores that ran at the same time, as those of a turn
+abbrev pub wave_turns : Image → List PlaceView → List Entry → TurnsView
+wave_turns image given history = record { regions = image.regions; apics = apics_of given; openings = openings_of given; history = history }
+
+-- the wave behind the history that its places stand for
+pub kept_wave : (image : Image) (past history : List Entry) (given places : List PlaceView) → 1 ≤ image.regions → image.regions ≤ 64 → IsRecorded image past
+    → AreBegun image given → StandFor image past given → StandAfterWave image.regions given history places
+    → IsKept image past (wave_turns image given history)
+kept_wave image past history given places least most before begun stand after = record {
+  least = least;
+  most = most;
+  regions = refl;
+  apics = begun_apics image given begun;
+  count = length-map given (λ (place : PlaceView). place.opening) ∙ begun.count;
+  before = before;
+  opened = stand;
+  history = after.in_order;
+  logs = after.logs;
+}
+
+-- the places that the wave left begin a wave of their own
+pub after_begun : (image : Image) (given places : List PlaceView) (history : List Entry) → AreBegun image given → StandAfterWave image.regions given history places → AreBegun image places
+after_begun image given places history begun after = record {
+  count = after.count;
+  each = subst (λ (apics : List ℕ). EachPlace places (IsFresh image.regions apics)) (begun_apics image given begun) after.fresh;
+}
+
+-- and keep the history with the wave in it
+pub kept_after : (image : Image) (past history now : List Entry) (given places : List PlaceView) → IsKept image past (wave_turns image given history)
+    → AreBegun image given → StandAfterWave image.regions given history places → now ≡ trace_of past (wave_turns image given history)
+    → IsKept image now (record { regions = image.regions; apics = apics_of places; openings = openings_of places; history = [] })
+kept_after image past history now given places kept begun after is =
+    subst (λ (l : List Entry). IsKept image l (record { regions = image.regions; apics = apics_of places; openings = openings_of places; history = [] })) (sym is)
+    (kept_begun image (trace_of past (wave_turns image given history)) places kept.least kept.most (recorded_now image past (wave_turns image given history) kept)
+    (after_begun image given places history begun after)
+    (opened_now image past (wave_turns image given history) (openings_of places) kept (record { values = after.values; counts = after.counts })))
+
+-- the trace with the wave in it
+pub trace_next : (old past all history : List Entry) (turns : TurnsView) → past ≡ old → all ≡ past ++ raised (length past) history → turns.history ≡ []
+    → trace_of all turns ≡ old ++ raised (length past) history
+trace_next old past all history turns is joined none =
+    ap (λ (l : List Entry). all ++ raised (length all) l) none ∙ (append-nil all ∙ (joined ∙ ap (λ (l : List Entry). l ++ raised (length past) history) is))

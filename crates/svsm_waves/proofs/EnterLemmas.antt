@@ -202,18 +202,3 @@ enter_more image done rest core start old new callers items caller boot is waits
 
 pub seen_word : (regions apic : ℕ) (page : Page) (caa : Gpa) (answer : Answer) → answer ≡ Seen page caa → IsAnswer regions (Enter apic) answer → IsWord regions caa.0
 seen_word regions apic page caa answer is h = let k : IsAnswer regions (Enter apic) (Seen page caa) = subst (λ (a : Answer). IsAnswer regions (Enter apic) a) is h in k.1.1
-
--- WHAT A TURN MADE
-
--- the entry, where the turn was given to the core before
-pub entry_at : (old mid new : List Entry) (core there ticket place : ℕ) (step : Step) (answer : Answer) → mid ≡ old → there ≡ core
-    → new ≡ mid ++ record { ticket = ticket; core = there; place = place; step = step; answer = answer } ∷ []
-    → new ≡ old ++ record { ticket = ticket; core = core; place = place; step = step; answer = answer } ∷ []
-entry_at old mid new core there ticket place step answer mid_is core_is is =
-    subst (λ (es : List Entry). new ≡ es ++ record { ticket = ticket; core = core; place = place; step = step; answer = answer } ∷ []) mid_is
-    (subst (λ (c : ℕ). new ≡ mid ++ record { ticket = ticket; core = c; place = place; step = step; answer = answer } ∷ []) core_is is)
-
-pub room_at : (old mid : List Entry) (core there : ℕ) → mid ≡ old → there ≡ core → made_by core old ≡ [] → length (made_by there mid) < 2 ^ 32
-room_at old mid core there mid_is core_is none =
-    let none_there : made_by there mid ≡ [] = ap (λ (c : ℕ). made_by c mid) core_is ∙ (ap (made_by core) mid_is ∙ none) in
-    omega (arith, ap length none_there)

@@ -14,7 +14,7 @@ use Rattle.place_core.specs.declared.kind.Kind.{Kind}
 use Rattle.place_core.specs.Kinds.{value_of, numbers_of}
 use Rattle.place_core.specs.Numbered.{numbers_along, NumbersAlong}
 use Rattle.place_core.specs.PlaceView.{PlaceView, new_place}
-use Rattle.place_core.specs.Turned.{TurnsView, IsHistory, AreLogs}
+use Rattle.place_core.specs.Turned.{TurnsView, EachPlace, IsFresh, IsHistory, AreLogs, openings_of}
 use Rattle.svsm_waves.specs.Trace.{IsRecorded}
 use Rattle.svsm_waves.specs.Raised.{raised}
 
@@ -69,3 +69,14 @@ pub record IsReplayed (place : PlaceView) : Type 0 where
 pub record AreReopened (closed opened : List PlaceView) : Type 0 where
   pub are : opened ≡ map reopened closed
   pub replayed : All IsReplayed closed
+
+-- places with their numbers, at rest, without a log
+pub record AreBegun (image : Image) (places : List PlaceView) : Type 0 where
+  pub count : length places ≡ image.regions + 2
+  pub each : EachPlace places (IsFresh image.regions (constants_of image).apics)
+
+-- the places stand as the state after a history, and the operations of the regions were counted so
+abbrev pub StandFor : Image → List Entry → List PlaceView → Type 0
+StandFor image past places =
+    AreOpened (constants_of image) (state_after (constants_of image) (booted image) past)
+    (numbers_after_all (constants_of image) (booted_numbers image) (booted image) past) (openings_of places)

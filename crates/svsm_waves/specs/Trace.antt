@@ -1,4 +1,4 @@
--- Histories, and what one core adds to them.
+-- Histories, and entries of one core.
 use Rattle.std.specs.Prelude.{◌≡◌, ℕ, ◌==◌, IsTrue, List, [], ◌∷◌, ◌++◌, ⊤}
 use Rattle.std.specs.List.{list_all}
 use Rattle.svsm_types.specs.declared.image.Image.{Image}
@@ -27,14 +27,6 @@ rows_now image trace = (state_after (constants_of image) (booted image) trace).r
 -- all entries are of this core
 abbrev pub AreOf : ℕ → List Entry → Type 0
 AreOf core entries = IsTrue (list_all (λ (entry : Entry). entry.core == core) entries)
-
--- a core added entries of its own, and nothing else changed
-pub record Moved (core then : ℕ) (image now : Image) (old new : List Entry) : Type 0 where
-  pub same_core : then ≡ core
-  pub same_image : now ≡ image
-  pub added : List Entry
-  pub new_is : new ≡ old ++ added
-  pub own : AreOf core added
 
 pub recorded_by : {image : Image} {trace : List Entry} → IsRunFrom (constants_of image) 0 (booted image) trace
     → FollowsPlatform (constants_of image) (booted_numbers image) (booted image) trace → AreWellFormed image.regions trace → IsRecorded image trace

@@ -1,5 +1,5 @@
--- A wave on its way: its cores enter, and then run one after another.
-use Rattle.std.specs.Prelude.{◌≡◌, ℕ, ◌<◌, IsTrue, List, [], ◌∷◌, ◌++◌, map, length, get_or, count_by, not, ⊤}
+-- A wave on its way: its cores enter, and then run.
+use Rattle.std.specs.Prelude.{◌≡◌, ℕ, ◌<◌, IsTrue, List, [], ◌∷◌, ◌++◌, map, length, get_or, slice_set, count_by, true, not, ⊤}
 use Rattle.std.specs.List.{list_all, list_any}
 use Rattle.svsm_types.specs.declared.address.Page.{Page}
 use Rattle.svsm_types.specs.declared.image.Image.{Image}
@@ -14,7 +14,7 @@ use Rattle.svsm_steps.specs.Registry.{of_apic_in}
 use Rattle.svsm_steps.specs.Formed.{IsWord}
 use Rattle.svsm_steps.specs.Made.{made_by}
 use Rattle.svsm_calls.specs.Waves.{is_among, apic_of, enters, numbers_of, AreWaves}
-use Rattle.svsm_calls.specs.Run.{caller_of, IsStarted, IsCore, script_of}
+use Rattle.svsm_calls.specs.Run.{caller_of, IsCore, script_of}
 use Rattle.svsm_waves.specs.Trace.{Each, AreOf, rows_now}
 
 -- numbers that rise
@@ -84,10 +84,16 @@ pub record EnteredBy (image : Image) (core : ℕ) (caller : Caller) (old new : L
   pub caller_core : caller.core ≡ core
   pub entered : HasEntered image new caller
 
--- a core that had entered made its run
-pub record HasRun (image : Image) (script : List Request) (core : ℕ) (old new : List Entry) (run : CoreRun) : Type 0 where
-  pub core_is : run.core ≡ core
-  pub added : List Entry
-  pub new_is : new ≡ old ++ added
-  pub own : AreOf core added
-  pub started : IsStarted image core script (made_by core new) run.outcomes run.end
+-- what each core of a wave gave, by all that it made
+abbrev pub AreStarted : Image → List (List Request) → List Entry → List Caller → List CoreRun → Type 0
+AreStarted image scripts trace [] [] = ⊤
+AreStarted image scripts trace (caller ∷ callers) (run ∷ runs) =
+    IsCore true image caller.core (script_of scripts caller.core) (made_by caller.core trace) run
+    × AreStarted image scripts trace callers runs
+AreStarted image scripts trace [] (run ∷ runs) = ⊥
+AreStarted image scripts trace (caller ∷ callers) [] = ⊥
+
+-- each run at the number of its core
+abbrev pub put_all : List CoreRun → List CoreRun → List CoreRun
+put_all runs [] = runs
+put_all runs (run ∷ rest) = put_all (slice_set runs run.core run) rest

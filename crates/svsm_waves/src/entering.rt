@@ -5,9 +5,9 @@ ghost use Rattle.svsm_calls.specs.Waves.{apic_of};
 ghost use Rattle.svsm_waves.specs.Trace.{Each};
 ghost use Rattle.svsm_waves.specs.Wave.{Rises, Waits, AreEntered, EnteredBy};
 
-use crate::{History, Turn};
+use crate::History;
 use std::alloc::Global;
-use svsm_steps::{Answer, Caller, Gate, Step};
+use svsm_steps::{Answer, Caller, Gate, Step, place_of};
 use svsm_types::{Image, NoMemory};
 
 pub fn apic_of(image: &Image, core: u32) -> u32
@@ -17,22 +17,23 @@ pub fn apic_of(image: &Image, core: u32) -> u32
     image.cores.as_slice()[core as usize].apic
 }
 
-// A core enters its guest.
+// A core enters its guest: its first step, before which it passes the gate.
 fn enter<H: History, G: Gate>(
     alloc: Global,
-    turn: &mut Turn<'_, H, G>,
+    gate: &G,
+    history: &mut H,
     image: &Image,
     core: u32,
 ) -> Result<Caller, NoMemory>
-    requires image { H.image turn.old.history ≡ image.now }
-    requires waits { Waits image.now (H.trace turn.old.history) core }
-    ensures entered { IfOk result (λ caller.
-        EnteredBy image.now core caller (H.trace turn.old.history) (H.trace turn.new.history)) }
-    ensures image { H.image turn.new.history ≡ image.now }
+    requires image { H.image history.old ≡ image.now }
+    requires waits { Waits image.now (H.trace history.old) core }
+    ensures entered { IfOk result (λ caller. EnteredBy image.now core caller (H.trace history.old) (H.trace history.new)) }
+    ensures image { H.image history.new ≡ image.now }
 {
     let apic = apic_of(image, core);
-    turn.give(core, 0);
-    let (_, answer) = turn.make(alloc, &Step::Enter { apic })?;
+    let step = Step::Enter { apic };
+    gate.pass(core, place_of(history.regions(), &step), 0);
+    let (_, answer) = history.step(alloc, core, &step)?;
     let Answer::Seen { caa, .. } = answer else {
         unreachable!()
     };
@@ -46,24 +47,25 @@ fn enter<H: History, G: Gate>(
     })
 }
 
-/// The cores of a wave enter, in order.
+/// The cores of a wave enter, in order, before any other step of the wave.
 pub fn enter_all<H: History, G: Gate>(
     alloc: Global,
-    turn: &mut Turn<'_, H, G>,
+    gate: &G,
+    history: &mut H,
     image: &Image,
     cores: &[u32],
 ) -> Result<Vec<Caller>, NoMemory>
-    requires image { H.image turn.old.history ≡ image.now }
+    requires image { H.image history.old ≡ image.now }
     requires sound { IsSound image.now }
-    requires wait { Each (Waits image.now (H.trace turn.old.history)) cores.now }
+    requires wait { Each (Waits image.now (H.trace history.old)) cores.now }
     requires rise { Rises cores.now }
     ensures entered { IfOk result (λ callers.
-        AreEntered image.now cores.now (H.trace turn.old.history) (H.trace turn.new.history) callers.items) }
-    ensures image { H.image turn.new.history ≡ image.now }
+        AreEntered image.now cores.now (H.trace history.old) (H.trace history.new) callers.items) }
+    ensures image { H.image history.new ≡ image.now }
 {
     let mut callers = Vec::new(alloc);
     for core in cores {
-        callers.push(enter(alloc, turn, image, *core)?)?;
+        callers.push(enter(alloc, gate, history, image, *core)?)?;
     }
     Ok(callers)
 }

@@ -9,11 +9,12 @@ ghost use Rattle.svsm_steps.specs.Requests.{AreScripts};
 ghost use Rattle.svsm_calls.specs.Run.{IsRun};
 ghost use Rattle.boot_core.specs.Boots.{BootEnds, Boots};
 
+use crate::InTurn;
 use crate::waves::run_all;
-use crate::{InTurn, Turn};
 use boot_core::BootError;
 use std::alloc::Global;
 use std::sync::Wait;
+use std::thread::Threads;
 use svsm_steps::{CoreRun, Entry, Gate};
 use svsm_types::{Image, NoMemory, Request, RmpRow, Sequence};
 
@@ -26,8 +27,9 @@ pub struct ImageRun {
 }
 
 /// Boots an image against the host of its lines, and runs the scripts on its cores: the i-th script is that of core i, and a core
-/// without one has no requests. Each step passes the gate first. An error is that of the boot, or want of memory.
-pub fn run_image<R: Wait, G: Gate>(
+/// without one has no requests. The cores of a wave run at the same time, and each passes the gate before each step. An error is that
+/// of the boot, or want of memory.
+pub fn run_image<R: Threads + Wait + Sync, G: Gate + Sync>(
     rt: &R,
     alloc: Global,
     image: &Image,
@@ -44,7 +46,7 @@ pub fn run_image<R: Wait, G: Gate>(
     ensures refused { IfErr result (λ error. (error ≡ BootError.NoMemory) ⊎ BootEnds image.now (Err error)) }
 {
     let places = InTurn::of_image(alloc, image)?;
-    let (places, cores) = run_all(rt, alloc, Turn::new(gate, places), image, scripts)?;
+    let (places, cores) = run_all(rt, alloc, gate, places, image, scripts)?;
     let rows = places.page_rows(alloc)?;
     Ok(ImageRun {
         trace: places.into_trace()?,

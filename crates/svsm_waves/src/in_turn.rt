@@ -6,21 +6,27 @@ ghost use Rattle.svsm_steps.specs.Machine.{state_after};
 ghost use Rattle.svsm_steps.specs.Sound.{IsSound};
 ghost use Rattle.svsm_steps.specs.State.{row_at, rmp_rows};
 ghost use Rattle.rmp_table.specs.PackedKnown.{packed_known};
-ghost use Rattle.region_core.specs.Stands.{Each, Stands, seen};
+ghost use Rattle.region_core.specs.Stands.{Each as EachRegion, Stands, seen};
+ghost use Rattle.svsm_steps.specs.Requests.{AreScripts};
+ghost use Rattle.svsm_waves.specs.Trace.{Each};
+ghost use Rattle.svsm_waves.specs.Wave.{AddedBy, AreStarted, HasEntered, Rises, cores_of};
 ghost use Rattle.boot_core.specs.Boots.{BootEnds, Boots};
 ghost use Rattle.svsm_waves.specs.Raised.{raised};
 ghost use Rattle.svsm_waves.specs.RaisedLaws.{numbered};
-ghost use Rattle.svsm_waves.specs.InTurn.{IsKept, trace_of, AreReopened, AreAtRest};
+ghost use Rattle.svsm_waves.specs.InTurn.{IsKept, trace_of, AreBegun, AreReopened, AreAtRest, StandFor};
 ghost use Rattle.svsm_waves.specs.Kept.{kept_prop, recorded_behind};
 
 use crate::History;
 use boot_core::{BootError, boot_image};
+use locked_places::{Wave, run_wave};
 use place_core::{Place, Turns, open_places, open_regions};
 use region_core::Region;
 use rmp_table::PackedRmp;
 use std::alloc::Global;
-use svsm_steps::{Answer, Entry, Step};
-use svsm_types::{Image, NoMemory, Page, RmpRow, Row, Sequence};
+use std::sync::Wait;
+use std::thread::Threads;
+use svsm_steps::{Answer, Caller, CoreRun, Entry, Gate, Step};
+use svsm_types::{Image, NoMemory, Page, Request, RmpRow, Row, Sequence};
 
 /// The places of an image with their history: the regions, the pool and the registry, which stand after it.
 #[derive(Drop)]
@@ -38,7 +44,7 @@ fn booted_regions(alloc: Global, image: &Image) -> Result<Vec<Region<PackedRmp>>
     requires { IsSound image.now }
     ensures boots { OnOk result (Boots image.now) }
     ensures count { IfOk result (λ regions. length regions.items ≡ image.now.regions) }
-    ensures stand { IfOk result (λ regions. Each (λ r. seen (packed_known r.scene) r.owners) regions.items
+    ensures stand { IfOk result (λ regions. EachRegion (λ r. seen (packed_known r.scene) r.owners) regions.items
         (Stands (booted image.now) (booted_numbers image.now))) }
     ensures refused { IfErr result (λ error. (error ≡ BootError.NoMemory) ⊎ BootEnds image.now (Err error)) }
 {
@@ -111,6 +117,55 @@ impl<'a> InTurn<'a> {
         Ok(Sequence::from_vec(joined(past, wave)?))
     }
 
+    // The history so far, and the places after it, with empty logs.
+    fn begun(self, alloc: Global) -> Result<(Vec<Entry>, Vec<Place>), NoMemory>
+        ensures past { IfOk result (λ begun. begun.0.items ≡ trace_of self.entry.past.items self.entry.turns) }
+        ensures places { IfOk result (λ begun. AreBegun self.entry.image.now begun.1.items) }
+        ensures opened { IfOk result (λ begun. StandFor self.entry.image.now begun.0.items begun.1.items) }
+    {
+        let InTurn { past, turns, .. } = self;
+        let (closed, wave) = turns.close();
+        let places = reopened(alloc, closed)?;
+        Ok((joined(past, wave)?, places))
+    }
+
+    /// Cores that have entered carry out their scripts at the same time, each in a thread of its own: what each gave, in their
+    /// order. They pass the gate before each step.
+    pub fn run_cores<R: Threads + Wait + Sync, G: Gate + Sync>(
+        self,
+        rt: &R,
+        alloc: Global,
+        gate: &G,
+        scripts: &[Sequence<Request>],
+        callers: &[Caller],
+    ) -> Result<(InTurn<'a>, Vec<CoreRun>), NoMemory>
+        requires sound { IsSound self.image.now }
+        requires scripts { AreScripts scripts.now }
+        requires entered { Each (HasEntered self.image.now (trace_of self.past.items self.turns)) callers.now }
+        requires rise { Rises (cores_of callers.now) }
+        ensures added { IfOk result (λ ended. AddedBy (cores_of callers.now)
+            (trace_of self.entry.past.items self.entry.turns) (trace_of ended.0.past.items ended.0.turns)) }
+        ensures started { IfOk result (λ ended. AreStarted self.entry.image.now scripts.now
+            (trace_of ended.0.past.items ended.0.turns) callers.now ended.1.items) }
+        ensures image { IfOk result (λ ended. ended.0.image.now ≡ self.entry.image.now) }
+    {
+        let image = self.image;
+        let (past, places) = self.begun(alloc)?;
+        let before = past.len() as u64;
+        let wave = run_wave(rt, alloc, gate, image, scripts, before, places, callers)?;
+        let Wave {
+            places,
+            history,
+            runs,
+        } = wave;
+        let next = InTurn {
+            image,
+            past: joined(past, history)?,
+            turns: Turns::new(alloc, image.regions, places),
+        };
+        Ok((next, runs))
+    }
+
     // All that stands of a page.
     fn row(&self, page: Page) -> RmpRow
         requires { page.0 < 512 * self.now.image.now.regions }
@@ -161,17 +216,6 @@ impl<'a> History for InTurn<'a> {
     fn step(&mut self, alloc: Global, core: u32, step: &Step) -> Result<(u64, Answer), NoMemory> {
         let (ticket, answer) = self.turns.step(alloc, core, step)?;
         Ok((self.past.len() as u64 + ticket, answer))
-    }
-
-    fn next_wave(self, alloc: Global) -> Result<Self, NoMemory> {
-        let InTurn { image, past, turns } = self;
-        let (closed, wave) = turns.close();
-        let places = reopened(alloc, closed)?;
-        Ok(InTurn {
-            image,
-            past: joined(past, wave)?,
-            turns: Turns::new(alloc, image.regions, places),
-        })
     }
 
     ghost recorded = { λ places. recorded_behind places.kept };

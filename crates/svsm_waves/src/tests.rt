@@ -5,7 +5,7 @@ ghost use Rattle.svsm_waves.specs.Small.{range, small};
 
 use super::*;
 use std::alloc::Global;
-use std::cell::Cell;
+use std::sync::atomic::{AtomicU64, Ordering};
 use std::test::Fail;
 use svsm_steps::{CoreEnd, Entry, Gate, Outcome, Step};
 use svsm_types::{
@@ -122,11 +122,11 @@ fn scripts(alloc: Global) -> Result<Vec<Sequence<Request>>, NoMemory> {
     Ok(vec![in alloc; Sequence::from_vec(creates), Sequence::from_vec(deletes)]?)
 }
 
-// What passes here leaves its mark.
+// What passes here leaves its mark, one core after another.
 #[derive(Drop)]
 struct Watch {
-    passes: Cell<u64>,
-    mark: Cell<u64>,
+    passes: AtomicU64,
+    mark: AtomicU64,
 }
 
 fn mark_after(mark: u64, core: u32, place: u64, made: u64) -> u64 {
@@ -138,9 +138,10 @@ fn mark_after(mark: u64, core: u32, place: u64, made: u64) -> u64 {
 
 impl Gate for Watch {
     fn pass(&self, core: u32, place: u64, made: u64) {
-        self.passes.set(self.passes.get().wrapping_add(1));
+        self.passes.fetch_add(1, Ordering::SeqCst);
+        let mark = self.mark.load(Ordering::SeqCst);
         self.mark
-            .set(mark_after(self.mark.get(), core, place, made));
+            .store(mark_after(mark, core, place, made), Ordering::SeqCst);
     }
 }
 
@@ -171,13 +172,13 @@ fn a_vcpu_that_is_created_runs_in_the_second_wave(rt: HostRuntime) -> Result<(),
     let scripts = scripts(alloc)?;
     assert!(rt; scripts.iter().all(is_script));
     let gate = Watch {
-        passes: Cell::new(0),
-        mark: Cell::new(0),
+        passes: AtomicU64::new(0),
+        mark: AtomicU64::new(0),
     };
     let run = run_image(&rt, alloc, &image, &scripts, &gate)?;
     let trace = run.trace.as_slice();
-    assert_eq!(rt; gate.passes.get(), trace.len() as u64);
-    assert_eq!(rt; gate.mark.get(), mark_of(trace));
+    assert_eq!(rt; gate.passes.load(Ordering::SeqCst), trace.len() as u64);
+    assert_eq!(rt; gate.mark.load(Ordering::SeqCst), mark_of(trace));
     let [first, second] = run.cores.as_slice() else {
         panic!(&rt; "there are two cores")
     };

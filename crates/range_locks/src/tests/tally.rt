@@ -1,7 +1,7 @@
 //! A small place, which keeps what the host shared and assigned.
 ghost use Rattle.std.specs.Prelude.{◌≡◌, ◌<◌, true, [], Some, None, IfOk, vec_len, vec_capacity};
 ghost use Rattle.svsm_steps.specs.declared.step.Step.{Step};
-ghost use Rattle.range_locks.specs.Tally.{is_of_host, are_of_host, is_pending_of_host, is_spare_of_host, shared_region, tallied};
+ghost use Rattle.range_locks.specs.Tally.{is_of_host, are_of_host, is_pending_of_host, is_spare_of_host, shared_region, no_numbers, tallied};
 
 use std::alloc::Global;
 use svsm_steps::{Answer, Entry, Pending, PlaceState, Step};
@@ -52,6 +52,8 @@ impl PlaceState for Tally {
     ghost apics = { λ _. [] };
 
     ghost opening = { λ _. shared_region };
+
+    ghost numbers = { λ _. no_numbers };
 
     ghost state = { λ tally. tallied tally.log.items tally.pending };
 

@@ -1,14 +1,8 @@
 use Rattle.std.proofs.Common.{◌≡◌, ◌∙◌, ◌∷◌, ◌+◌, ◌<◌, List, ℕ, get_or, length, ap, sym, subst, map, string_bytes, drop, drop-cons, add-one, arith}
 use Rattle.command_words.specs.Words.{Text}
-use Rattle.command_words.proofs.TallyLemmas.{Tally, tally_at, name_met, end_met, brief_met}
+use Rattle.command_words.proofs.TallyLemmas.{Tally, next_word, tally_at, name_met, end_met, brief_met}
 use Rattle.command_words.proofs.admitted.are_of_run.Goals.{then-is_name, else-is_name+then-is_end, else-is_name+else-is_end+then-is_first_brief}
 use Rattle.command_words.proofs.admitted.are_of_run.Goals as goal
-
--- the next word and what follows it
-next_word : {X : Type 0} (f : X → Text) (xs : List X) (i : ℕ) (d : X) (word : Text) → i < length xs → d ≡ get_or xs i d → word ≡ f d → map f (drop i xs) ≡ word ∷ map f (drop (i + 1) xs)
-next_word f xs i d word within is text =
-    let split : drop i xs ≡ get_or xs i d ∷ drop (i + 1) xs = rw add-one (drop-cons xs i d within) in
-    ap (map f) split ∙ ap (λ (t : Text). t ∷ map f (drop (i + 1) xs)) (ap f (sym is) ∙ sym text)
 
 pub loop-word-preserved : goal.loop-word-preserved
 loop-word-preserved c =

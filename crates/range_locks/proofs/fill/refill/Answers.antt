@@ -5,6 +5,7 @@ use native.Mathlib.Decide.{ℕ_discrete}
 use lib.ListN.{get_elem?}
 use Rattle.std.specs.Slots.{slots_items, slots_len, slots_filled, slots_counts}
 use Rattle.svsm_steps.specs.Lawful.{IsLawful}
+use Rattle.svsm_steps.specs.PlaceFaults.{FollowsAt}
 use Rattle.range_locks.proofs.Splits.{at_end}
 use Rattle.range_locks.proofs.fill.refill.Goals as goal
 
@@ -26,6 +27,8 @@ loop-i-preserved g c = let v = c.loop-i.invariant in let i = c.loop-i.i in let r
       long = ap length c.push_reserved.ensures.items ∙ (length-append c.loop-i.kept.items (c.in-Some.place ∷ []) ∙ ap (λ n. n + 1) v.long);
       room = (let r = v.room in let q = c.push_reserved.ensures.capacity in omega arith);
       lawful = λ p x at. let r = g.P.PlaceState in ⊎_elim (λ t. v.lawful p x t) (λ t. subst (λ y. IsLawful (r.apics y) (r.opening y) (r.log y) (r.pending y) (r.state y)) t.1 c.entries.ensures.law)
+          (at_end c.loop-i.kept.items c.in-Some.place x p (ap (λ l. get_elem? l p) (sym c.push_reserved.ensures.items) ∙ at));
+      due = λ p x at. let r = g.P.PlaceState in ⊎_elim (λ t. v.due p x t) (λ t. subst (λ y. FollowsAt (r.apics y) (r.numbers y) (r.opening y) (r.log y)) t.1 c.entries.ensures.due)
           (at_end c.loop-i.kept.items c.in-Some.place x p (ap (λ l. get_elem? l p) (sym c.push_reserved.ensures.items) ∙ at));
       same = λ p x at. ⊎_elim (λ t. ap (λ l. get_elem? l p) o.0 ∙ v.same p x t) (λ t. ap (λ l. get_elem? l p) o.0 ∙ (ap (get_elem? (slots_items row)) (t.0 ∙ v.long) ∙ (c.take-slot.ensures.value ∙ ap some (c.in-Some.is ∙ ap Some t.1))))
           (at_end c.loop-i.kept.items c.in-Some.place x p (ap (λ l. get_elem? l p) (sym c.push_reserved.ensures.items) ∙ at));

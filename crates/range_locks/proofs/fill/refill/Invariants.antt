@@ -4,6 +4,7 @@ use mathlib.Core.Option.{some}
 use lib.ListN.{get_elem?}
 use Rattle.std.specs.Slots.{slots_items, slots_filled, slots_len}
 use Rattle.svsm_steps.specs.Lawful.{IsLawful}
+use Rattle.svsm_steps.specs.PlaceFaults.{FollowsAt}
 use Rattle.range_locks.proofs.fill.refill.Given as goal
 
 abbrev pub invariant-loop-i : goal.invariant-loop-i
@@ -16,6 +17,7 @@ invariant-loop-i g l = record {
   long : length l.kept.items ≡ l.i;
   room : slots_len l.closed.slots ≤ vec_capacity l.kept;
   lawful : (p : ℕ) (x : g.row.P.Denot) → get_elem? l.kept.items p ≡ some x → IsLawful (g.P.PlaceState.apics x) (g.P.PlaceState.opening x) (g.P.PlaceState.log x) (g.P.PlaceState.pending x) (g.P.PlaceState.state x);
+  due : (p : ℕ) (x : g.row.P.Denot) → get_elem? l.kept.items p ≡ some x → FollowsAt (g.P.PlaceState.apics x) (g.P.PlaceState.numbers x) (g.P.PlaceState.opening x) (g.P.PlaceState.log x);
   same : (p : ℕ) (x : g.row.P.Denot) → get_elem? l.kept.items p ≡ some x → get_elem? (slots_items l.closed.slots) p ≡ some (Some x);
 }
 

@@ -24,4 +24,4 @@ returns-clause-same g c = let h = c.requires.holds in let full = c.put_in.ensure
 pub returns-clause-drew : goal.returns-clause-drew
 returns-clause-drew g c = λ x held is. let full = c.put_in.ensures.full in
     let told = c.fetch_add-ticket.ensures.2 _ _ _ held x c.args.value c.args.pending (ap (λ m. m.0) full ∙ ap (λ m. m.0) is) (ap (λ m. m.1) full) c.requires.pending in
-    (c.take_out-value.ensures.empty ∙ ap (λ (v : View g.row.P.Denot). (v, (c.args.place, None) ∷ [])) (ap (λ m. m.0) told.0), told.1, told.2)
+    (c.take_out-value.ensures.empty ∙ ap (λ (v : View g.row.P.Denot). (v, (c.args.place, None) ∷ [])) (ap (λ m. m.0) told.0), told.1, told.2, told.3)

@@ -40,6 +40,7 @@ release-requires-2-clause-holds g c = let h = c.lock.ensures.holds in let t = g.
       c.put.ensures.regions ∙ (ap t.regions drawn ∙ (c.act-answer.ensures.regions ∙ (c.reserve.ensures.regions ∙ ap t.regions same))),
       c.put.ensures.apics ∙ (ap t.apics drawn ∙ (c.act-answer.ensures.apics ∙ (c.reserve.ensures.apics ∙ ap t.apics same))),
       c.put.ensures.opening ∙ (ap t.opening drawn ∙ (c.act-answer.ensures.opening ∙ (c.reserve.ensures.opening ∙ ap t.opening same))),
+      c.put.ensures.numbers ∙ (ap t.numbers drawn ∙ (c.act-answer.ensures.numbers ∙ (c.reserve.ensures.numbers ∙ ap t.numbers same))),
       c.put.ensures.pending,
     )
 
@@ -60,3 +61,10 @@ returns-clause-later g c = let h = c.lock.ensures.holds in let log = g.P.PlaceSt
     let is = holding c.take_out-value.new.seat.me _ _ (Held p h.0 (log h.0)) _ base in
     let told = c.draw-ticket.ensures.drew h.0 (log h.0) is in
     subst (IsAbove c.draw-ticket.result.0) (ap (λ m. entries_in m.0) base) told.2
+
+pub returns-clause-far : goal.returns-clause-far
+returns-clause-far g c = let h = c.lock.ensures.holds in let log = g.P.PlaceState.log in let p = c.place_of-place.result in
+    let base = c.take_out-value.ensures.empty ∙ ap (λ (v : View g.row.P.Denot). (v, (p, None) ∷ [])) (ap (λ m. m.0) h.1) in
+    let is = holding c.take_out-value.new.seat.me _ _ (Held p h.0 (log h.0)) _ base in
+    let told = c.draw-ticket.ensures.drew h.0 (log h.0) is in
+    told.3

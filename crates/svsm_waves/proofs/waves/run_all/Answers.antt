@@ -7,6 +7,8 @@ use Rattle.svsm_steps.specs.declared.entry.Entry.{Entry}
 use Rattle.svsm_calls.specs.Run.{IsRun}
 use Rattle.svsm_calls.specs.Waves.{ready_cores}
 use Rattle.svsm_waves.specs.Trace.{rows_now, IsRecorded}
+use Rattle.svsm_waves.specs.InTurn.{trace_of}
+use Rattle.svsm_waves.specs.Kept.{recorded_behind}
 use Rattle.svsm_waves.specs.Wave.{AddedBy, Gave, Waved, cores_of, left}
 use Rattle.svsm_waves.proofs.ListLemmas.{no_items, some_items}
 use Rattle.svsm_waves.proofs.WaveLemmas.{waits_next, rises_next, fewer_left, wave_more, waved_none, waved_whole}
@@ -14,63 +16,62 @@ use Rattle.svsm_waves.proofs.waves.run_all.Goals as goal
 
 pub waves-init : goal.waves-init
 waves-init g c = record {
-  waved = rw c.new-ran.ensures.items (waved_none c.args.image.now c.args.scripts.now (g.H.History.trace c.args.first.history) c.in_ok-runs.runs.items c.requires.fresh c.in_ok-runs.ensures);
+  waved = rw c.new-ran.ensures.items (waved_none c.args.image.now c.args.scripts.now (trace_of c.args.first.past.items c.args.first.turns) c.in_ok-runs.runs.items c.requires.fresh c.in_ok-runs.ensures);
   image = c.requires.image;
 }
 
 pub returns-then-is_empty-clause-run : goal.returns-then-is_empty-clause-run
 returns-then-is_empty-clause-run g c =
-    let next : c.as_slice-wave.result.now ≡ ready_cores c.args.image.now c.waves.ran.items (rows_now c.args.image.now (g.H.History.trace c.waves.turn.history)) =
+    let next : c.as_slice-wave.result.now ≡ ready_cores c.args.image.now c.waves.ran.items (rows_now c.args.image.now (trace_of c.waves.places.past.items c.waves.places.turns)) =
     c.as_slice-wave.ensures.value ∙ (c.in_ok-cores.ensures ∙ (ap (λ (l : List ℕ). ready_cores c.args.image.now l c.rows.result.now) c.deref.ensures.value
-    ∙ ap (λ (rows : List Row). ready_cores c.args.image.now c.waves.ran.items rows) (c.rows.ensures ∙ ap (λ (i : Image). rows_now i (g.H.History.trace c.waves.turn.history)) c.waves.invariant.image))) in
-    subst (λ (es : List Entry). IsRun c.args.image.now c.args.scripts.now es c.waves.runs.items) (sym (ap (λ h. g.H.History.trace h) c.into_history.ensures))
-    (waved_whole c.args.image.now c.args.scripts.now (g.H.History.trace c.waves.turn.history) c.waves.ran.items c.waves.runs.items c.as_slice-wave.result.now
-    (subst (λ (i : Image). IsRecorded i (g.H.History.trace c.waves.turn.history)) c.waves.invariant.image (g.met.H.History.recorded c.waves.turn.history)) c.waves.invariant.waved next
-    (no_items c.as_slice-wave.result.now (sym c.is_empty.ensures ∙ c.if-is_empty.true)))
+    ∙ ap (λ (rows : List Row). ready_cores c.args.image.now c.waves.ran.items rows) (c.rows.ensures ∙ ap (λ (i : Image). rows_now i (trace_of c.waves.places.past.items c.waves.places.turns)) c.waves.invariant.image))) in
+    waved_whole c.args.image.now c.args.scripts.now (trace_of c.waves.places.past.items c.waves.places.turns) c.waves.ran.items c.waves.runs.items c.as_slice-wave.result.now
+    (subst (λ (i : Image). IsRecorded i (trace_of c.waves.places.past.items c.waves.places.turns)) c.waves.invariant.image (recorded_behind c.waves.places.kept)) c.waves.invariant.waved next
+    (no_items c.as_slice-wave.result.now (sym c.is_empty.ensures ∙ c.if-is_empty.true))
 
 pub enter_all-requires-clause-wait : goal.enter_all-requires-clause-wait
 enter_all-requires-clause-wait g c =
-    let next : c.as_slice-wave.result.now ≡ ready_cores c.args.image.now c.waves.ran.items (rows_now c.args.image.now (g.H.History.trace c.waves.turn.history)) =
+    let next : c.as_slice-wave.result.now ≡ ready_cores c.args.image.now c.waves.ran.items (rows_now c.args.image.now (trace_of c.waves.places.past.items c.waves.places.turns)) =
     c.as_slice-wave.ensures.value ∙ (c.in_ok-cores.ensures ∙ (ap (λ (l : List ℕ). ready_cores c.args.image.now l c.rows.result.now) c.deref.ensures.value
-    ∙ ap (λ (rows : List Row). ready_cores c.args.image.now c.waves.ran.items rows) (c.rows.ensures ∙ ap (λ (i : Image). rows_now i (g.H.History.trace c.waves.turn.history)) c.waves.invariant.image))) in
-    waits_next c.args.image.now c.args.scripts.now (g.H.History.trace c.waves.turn.history) c.waves.ran.items c.waves.runs.items c.as_slice-wave.result.now c.waves.invariant.waved next
+    ∙ ap (λ (rows : List Row). ready_cores c.args.image.now c.waves.ran.items rows) (c.rows.ensures ∙ ap (λ (i : Image). rows_now i (trace_of c.waves.places.past.items c.waves.places.turns)) c.waves.invariant.image))) in
+    waits_next c.args.image.now c.args.scripts.now (trace_of c.waves.places.past.items c.waves.places.turns) c.waves.ran.items c.waves.runs.items c.as_slice-wave.result.now c.waves.invariant.waved next
 
 pub enter_all-requires-clause-rise : goal.enter_all-requires-clause-rise
 enter_all-requires-clause-rise g c =
-    let next : c.as_slice-wave.result.now ≡ ready_cores c.args.image.now c.waves.ran.items (rows_now c.args.image.now (g.H.History.trace c.waves.turn.history)) =
+    let next : c.as_slice-wave.result.now ≡ ready_cores c.args.image.now c.waves.ran.items (rows_now c.args.image.now (trace_of c.waves.places.past.items c.waves.places.turns)) =
     c.as_slice-wave.ensures.value ∙ (c.in_ok-cores.ensures ∙ (ap (λ (l : List ℕ). ready_cores c.args.image.now l c.rows.result.now) c.deref.ensures.value
-    ∙ ap (λ (rows : List Row). ready_cores c.args.image.now c.waves.ran.items rows) (c.rows.ensures ∙ ap (λ (i : Image). rows_now i (g.H.History.trace c.waves.turn.history)) c.waves.invariant.image))) in
+    ∙ ap (λ (rows : List Row). ready_cores c.args.image.now c.waves.ran.items rows) (c.rows.ensures ∙ ap (λ (i : Image). rows_now i (trace_of c.waves.places.past.items c.waves.places.turns)) c.waves.invariant.image))) in
     rises_next c.args.image.now c.waves.ran.items _ c.as_slice-wave.result.now next
 
 pub run_entered-requires-clause-rise : goal.run_entered-requires-clause-rise
-run_entered-requires-clause-rise g c =
-    let next : c.as_slice-wave.result.now ≡ ready_cores c.args.image.now c.waves.ran.items (rows_now c.args.image.now (g.H.History.trace c.waves.turn.history)) =
+run_entered-requires-clause-rise g c κs within =
+    let next : c.as_slice-wave.result.now ≡ ready_cores c.args.image.now c.waves.ran.items (rows_now c.args.image.now (trace_of c.waves.places.past.items c.waves.places.turns)) =
     c.as_slice-wave.ensures.value ∙ (c.in_ok-cores.ensures ∙ (ap (λ (l : List ℕ). ready_cores c.args.image.now l c.rows.result.now) c.deref.ensures.value
-    ∙ ap (λ (rows : List Row). ready_cores c.args.image.now c.waves.ran.items rows) (c.rows.ensures ∙ ap (λ (i : Image). rows_now i (g.H.History.trace c.waves.turn.history)) c.waves.invariant.image))) in
+    ∙ ap (λ (rows : List Row). ready_cores c.args.image.now c.waves.ran.items rows) (c.rows.ensures ∙ ap (λ (i : Image). rows_now i (trace_of c.waves.places.past.items c.waves.places.turns)) c.waves.invariant.image))) in
     let same : c.as_slice-inside.result.now ≡ c.in_ok-callers.callers.items = c.as_slice-inside.ensures.value in
     rw (same, c.in_ok-callers.ensures.entered.callers_are) (rises_next c.args.image.now c.waves.ran.items _ c.as_slice-wave.result.now next)
 
 pub waves-preserved : goal.waves-preserved
 waves-preserved g c =
-    let next : c.as_slice-wave.result.now ≡ ready_cores c.args.image.now c.waves.ran.items (rows_now c.args.image.now (g.H.History.trace c.waves.turn.history)) =
+    let next : c.as_slice-wave.result.now ≡ ready_cores c.args.image.now c.waves.ran.items (rows_now c.args.image.now (trace_of c.waves.places.past.items c.waves.places.turns)) =
     c.as_slice-wave.ensures.value ∙ (c.in_ok-cores.ensures ∙ (ap (λ (l : List ℕ). ready_cores c.args.image.now l c.rows.result.now) c.deref.ensures.value
-    ∙ ap (λ (rows : List Row). ready_cores c.args.image.now c.waves.ran.items rows) (c.rows.ensures ∙ ap (λ (i : Image). rows_now i (g.H.History.trace c.waves.turn.history)) c.waves.invariant.image))) in
+    ∙ ap (λ (rows : List Row). ready_cores c.args.image.now c.waves.ran.items rows) (c.rows.ensures ∙ ap (λ (i : Image). rows_now i (trace_of c.waves.places.past.items c.waves.places.turns)) c.waves.invariant.image))) in
     let some : c.as_slice-wave.result.now ≢ [] = some_items c.as_slice-wave.result.now (sym c.is_empty.ensures ∙ c.if-is_empty.false) in
     let same : c.as_slice-inside.result.now ≡ c.in_ok-callers.callers.items = c.as_slice-inside.ensures.value in
     record {
-      waved = subst (λ (es : List Entry). Waved c.args.image.now c.args.scripts.now es c.extend_from_slice.new.self.items c.run_entered.new.runs.items) (sym c.in_ok-turn.ensures.trace)
-          (rw c.in_ok-extend_from_slice.ensures.items (wave_more c.args.image.now c.args.scripts.now (g.H.History.trace c.waves.turn.history) (g.H.History.trace c.enter_all.new.turn.history) (g.H.History.trace c.run_entered.new.turn.history)
+      waved = (rw c.in_ok-extend_from_slice.ensures.items (wave_more c.args.image.now c.args.scripts.now (trace_of c.waves.places.past.items c.waves.places.turns) (trace_of c.enter_all.new.history.past.items c.enter_all.new.history.turns) (trace_of c.in_ok-places.places.past.items c.in_ok-places.places.turns)
           c.waves.ran.items c.as_slice-wave.result.now c.waves.runs.items c.run_entered.new.runs.items c.in_ok-callers.callers.items c.waves.invariant.waved next some c.in_ok-callers.ensures.entered
-          (subst (λ (l : List Caller). AddedBy (cores_of l) (g.H.History.trace c.enter_all.new.turn.history) (g.H.History.trace c.run_entered.new.turn.history)) same c.in_ok-run_entered.ensures.added)
-          (λ (them : List ℕ) (first : Gave c.args.image.now c.args.scripts.now (g.H.History.trace c.enter_all.new.turn.history) them c.waves.runs.items).
-          subst (λ (l : List Caller). Gave c.args.image.now c.args.scripts.now (g.H.History.trace c.run_entered.new.turn.history) (them ++ cores_of l) c.run_entered.new.runs.items) same (c.in_ok-run_entered.ensures.gave them first))));
-      image = c.in_ok-turn.ensures.image ∙ c.in_ok-run_entered.ensures.image;
+          (subst (λ (l : List Caller). AddedBy (cores_of l) (trace_of c.enter_all.new.history.past.items c.enter_all.new.history.turns) (trace_of c.in_ok-places.places.past.items c.in_ok-places.places.turns)) same c.in_ok-places.ensures.added)
+          (λ (them : List ℕ) (first : Gave c.args.image.now c.args.scripts.now (trace_of c.enter_all.new.history.past.items c.enter_all.new.history.turns) them c.waves.runs.items).
+          subst (λ (l : List Caller). Gave c.args.image.now c.args.scripts.now (trace_of c.in_ok-places.places.past.items c.in_ok-places.places.turns) (them ++ cores_of l) c.run_entered.new.runs.items) same (subst (λ (i : Image). Gave i c.args.scripts.now (trace_of c.in_ok-places.places.past.items c.in_ok-places.places.turns) (them ++ cores_of c.as_slice-inside.result.now) c.run_entered.new.runs.items) c.in_ok-callers.ensures.image
+          (c.in_ok-places.ensures.gave them (subst (λ (i : Image). Gave i c.args.scripts.now (trace_of c.enter_all.new.history.past.items c.enter_all.new.history.turns) them c.waves.runs.items) (sym c.in_ok-callers.ensures.image) first))))));
+      image = c.in_ok-places.ensures.image ∙ c.in_ok-callers.ensures.image;
     }
 
 pub waves-smaller : goal.waves-smaller
 waves-smaller g c =
-    let next : c.as_slice-wave.result.now ≡ ready_cores c.args.image.now c.waves.ran.items (rows_now c.args.image.now (g.H.History.trace c.waves.turn.history)) =
+    let next : c.as_slice-wave.result.now ≡ ready_cores c.args.image.now c.waves.ran.items (rows_now c.args.image.now (trace_of c.waves.places.past.items c.waves.places.turns)) =
     c.as_slice-wave.ensures.value ∙ (c.in_ok-cores.ensures ∙ (ap (λ (l : List ℕ). ready_cores c.args.image.now l c.rows.result.now) c.deref.ensures.value
-    ∙ ap (λ (rows : List Row). ready_cores c.args.image.now c.waves.ran.items rows) (c.rows.ensures ∙ ap (λ (i : Image). rows_now i (g.H.History.trace c.waves.turn.history)) c.waves.invariant.image))) in
+    ∙ ap (λ (rows : List Row). ready_cores c.args.image.now c.waves.ran.items rows) (c.rows.ensures ∙ ap (λ (i : Image). rows_now i (trace_of c.waves.places.past.items c.waves.places.turns)) c.waves.invariant.image))) in
     let some : c.as_slice-wave.result.now ≢ [] = some_items c.as_slice-wave.result.now (sym c.is_empty.ensures ∙ c.if-is_empty.false) in
     subst (λ (l : List ℕ). left c.args.image.now l < left c.args.image.now c.waves.ran.items) (sym c.in_ok-extend_from_slice.ensures.items) (fewer_left c.args.image.now c.waves.ran.items _ c.as_slice-wave.result.now next some)

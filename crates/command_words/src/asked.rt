@@ -1,0 +1,27 @@
+//! What the words ask for.
+
+/// A run, as the words ask for it.
+#[derive(Debug, Drop)]
+pub struct RunWords<'a> {
+    pub brief: bool,
+    pub image: &'a str,
+    pub scripts: Vec<&'a str>,
+}
+
+/// Generated scripts, as the words ask for them.
+#[derive(Clone, Copy, Debug, PartialEq, Eq)]
+pub struct GenWords {
+    /// 1 to 16.
+    pub cores: u32,
+    /// How many for each core, 1 to 128.
+    pub requests: u64,
+    /// Where the congruence begins.
+    pub number: u64,
+}
+
+/// A command, as the words ask for it.
+#[derive(Debug, Drop)]
+pub enum Command<'a> {
+    Run(RunWords<'a>),
+    Gen(GenWords),
+}

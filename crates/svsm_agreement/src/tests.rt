@@ -1,0 +1,7 @@
+mod agree;
+mod faults;
+mod formed;
+mod many;
+mod overtake;
+mod rows;
+mod texts;
