@@ -2,12 +2,13 @@
 use Rattle.std.proofs.Common.{◌≡◌, ◌<◌, ◌≤◌, ◌+◌, ℕ, Bool, true, false, List, [], ◌∷◌, length, refl, sym, subst, arith}
 use Rattle.std.proofs.lemmas.Bool.Decides.{nat_tests}
 use Rattle.std.specs.Prelude.{count_by, ◌==◌}
+use Rattle.std.specs.List.{list_any}
 use Rattle.svsm_types.specs.declared.image.CoreLine.{CoreLine}
 use Rattle.svsm_types.specs.declared.image.Image.{Image}
 use Rattle.svsm_types.specs.declared.owner.Owner.TheVariants.{Vmsa}
 use Rattle.svsm_steps.specs.Checks.{same_owner}
 use Rattle.svsm_steps.specs.Image.{is_in_range, range_of, owner_in, constants_of, image_state}
-use Rattle.svsm_steps.specs.Sound.{IsSound}
+use Rattle.svsm_steps.specs.Sound.{IsSound, has_vmsa}
 use Rattle.region_core.specs.Stands.{fresh_numbers}
 use Rattle.place_core.specs.Opened.{IsOpened}
 use Rattle.place_core.specs.PlaceView.{PlaceView}
@@ -15,11 +16,16 @@ use Rattle.place_core.specs.Turned.{EachPlace, IsFresh, apics_of}
 use Rattle.svsm_steps.specs.declared.call.Caller.{Caller}
 use Rattle.svsm_calls.specs.Formed.{IsCaller}
 use Rattle.locked_places.specs.Wave.{AreCallers}
-use Rattle.locked_places.specs.Small.{ghcb_range, small, caller}
+use Rattle.locked_places.specs.Small.{ghcb_range, vmsa_range, small, caller}
 
-one_range : (page : ℕ) (b : Bool) → is_in_range page ghcb_range ≡ b → count_by (is_in_range page) small.ranges ≤ 1
-one_range page true is = rw is (omega arith)
-one_range page false is = rw is (omega arith)
+apart : (page : ℕ) → is_in_range page ghcb_range ≡ true → is_in_range page vmsa_range ≡ true → ⊥
+apart page is also = grind (arith, nat_tests)
+
+one_range : (page : ℕ) (a b : Bool) → is_in_range page ghcb_range ≡ a → is_in_range page vmsa_range ≡ b → count_by (is_in_range page) small.ranges ≤ 1
+one_range page true true is also = absurd (apart page is also)
+one_range page true false is also = rw (is, also) (omega arith)
+one_range page false true is also = rw (is, also) (omega arith)
+one_range page false false is also = rw (is, also) (omega arith)
 
 clash : (apic : ℕ) → (0 == apic) ≡ true → (1 == apic) ≡ true → ⊥
 clash apic is also = grind (arith, nat_tests)
@@ -30,9 +36,22 @@ one_core apic true false is also = rw (is, also) (omega arith)
 one_core apic false true is also = rw (is, also) (omega arith)
 one_core apic false false is also = rw (is, also) (omega arith)
 
-no_vmsa : (page : ℕ) (b : Bool) → is_in_range page ghcb_range ≡ b → false ≡ same_owner (owner_in (range_of small page)) Vmsa
-no_vmsa page true is = rw is refl
-no_vmsa page false is = rw is refl
+one_vmsa : (page : ℕ) (b : Bool) → (0x10 == page) ≡ b → count_by (has_vmsa page) small.cores ≤ 1
+one_vmsa page true is = rw is (omega arith)
+one_vmsa page false is = rw is (omega arith)
+
+no_vmsa : (page : ℕ) (b : Bool) → is_in_range page ghcb_range ≡ b → is_in_range page vmsa_range ≡ false → same_owner (owner_in (range_of small page)) Vmsa ≡ false
+no_vmsa page true is out = rw is refl
+no_vmsa page false is out = rw (is, out) refl
+
+vmsa_at : (page : ℕ) (b : Bool) → (0x10 == page) ≡ b → list_any (has_vmsa page) small.cores ≡ same_owner (owner_in (range_of small page)) Vmsa
+vmsa_at page true is =
+    let same : 0x10 ≡ page = grind (arith, nat_tests) in
+    subst (λ (n : ℕ). list_any (has_vmsa n) small.cores ≡ same_owner (owner_in (range_of small n)) Vmsa) same refl
+vmsa_at page false is =
+    let out : is_in_range page vmsa_range ≡ false = grind (arith, nat_tests, is) in
+    let none : same_owner (owner_in (range_of small page)) Vmsa ≡ false = no_vmsa page (is_in_range page ghcb_range) refl out in
+    rw (is, none) refl
 
 pub small_is_sound : IsSound small
 small_is_sound = record {
@@ -40,7 +59,7 @@ small_is_sound = record {
   regions_most = omega arith;
   vmpl = (omega arith, omega arith);
   ranges = refl;
-  apart = λ page. one_range page (is_in_range page ghcb_range) refl;
+  apart = λ page. one_range page (is_in_range page ghcb_range) (is_in_range page vmsa_range) refl refl;
   large = refl;
   uniform_owner = λ page other held same. absurd cc;
   uniform_state = λ page other held same. absurd cc;
@@ -57,8 +76,8 @@ small_is_sound = record {
   cores_most = omega arith;
   cores = refl;
   apics = λ apic. one_core apic (0 == apic) (1 == apic) refl refl;
-  vmsas_apart = λ page. omega arith;
-  vmsas = λ page. no_vmsa page (is_in_range page ghcb_range) refl;
+  vmsas_apart = λ page. one_vmsa page (0x10 == page) refl;
+  vmsas = λ page. vmsa_at page (0x10 == page) refl;
   fills = refl;
   faults = refl;
   host = refl;

@@ -24,7 +24,8 @@ use Rattle.range_locks.specs.Passes as passes
 use Rattle.history_core.specs.Merged.{AreLogsOf}
 use Rattle.locked_places.specs.Wave.{StandAfterWave}
 use Rattle.locked_places.specs.Ended.{AreWaved}
-use Rattle.locked_places.specs.Opened.{opened, HaveHistory, IsReplayed, AreOpened}
+use Rattle.place_core.specs.Reopened.{reopened, IsReplayed}
+use Rattle.locked_places.specs.Opened.{HaveHistory}
 use Rattle.locked_places.proofs.Elements.{at_place, place_at, log_at}
 
 -- BEFORE THE WAVE
@@ -105,13 +106,13 @@ module _ (image : Image) (scripts : List (List Request)) (before : ℕ) (callers
       let value : value_of (get_or closed number place).opening ≡ value_of (slice_index_or (openings_of given) number none) = one.opening_is ∙ ap value_of (sym opening) in
       (replayed number place (omega (arith, waved.count))).numbers.ends ∙ (λ i. numbers_along (apics i) (numbers i) (value i) (one.log_is i))
 
-  module _ (places : List PlaceView) (are : places ≡ map opened closed) where
+  module _ (places : List PlaceView) (are : places ≡ map reopened closed) where
     long : length places ≡ image.regions + 2
-    long = ap length are ∙ (length-map closed opened ∙ waved.count)
+    long = ap length are ∙ (length-map closed reopened ∙ waved.count)
 
-    opened_at : (number : ℕ) (none : PlaceView) → number < image.regions + 2 → get_or places number none ≡ opened (get_or closed number none)
+    opened_at : (number : ℕ) (none : PlaceView) → number < image.regions + 2 → get_or places number none ≡ reopened (get_or closed number none)
     opened_at number none low =
-        ap (λ (l : List PlaceView). get_or l number none) are ∙ get_or-map opened closed number none none (omega (arith, waved.count))
+        ap (λ (l : List PlaceView). get_or l number none) are ∙ get_or-map reopened closed number none none (omega (arith, waved.count))
 
     kind_at : (number : ℕ) (none : Kind) → number < image.regions + 2 → slice_index_or (openings_of places) number none ≡ (get_or closed number (new_place 0 0 [] none)).kind
     kind_at number none low =
@@ -141,21 +142,16 @@ module _ (image : Image) (scripts : List (List Request)) (before : ℕ) (callers
 
 -- THEIR LOGS
 
-pub logs_are : {A : Type 0} (regions : ℕ) (history : List Entry) (closed places : List PlaceView) (logs : List (Vec Entry A)) → HaveHistory regions history closed
-    → AreOpened closed places logs → AreLogsOf regions history logs
-logs_are regions history closed places logs have made = record {
+pub logs_are : {A : Type 0} (regions : ℕ) (history : List Entry) (closed : List PlaceView) (logs : List (Vec Entry A)) → HaveHistory regions history closed
+    → map (λ (log : Vec Entry A). log.items) logs ≡ map (λ (place : PlaceView). place.log) closed → AreLogsOf regions history logs
+logs_are regions history closed logs have are = record {
   in_order = have.tickets;
   below = have.below;
-  as_many = sym (length-map logs (λ log. log.items)) ∙ (ap length made.logs_are ∙ (length-map closed (λ (p : PlaceView). p.log) ∙ have.count));
+  as_many = sym (length-map logs (λ log. log.items)) ∙ (ap length are ∙ (length-map closed (λ (p : PlaceView). p.log) ∙ have.count));
   each = λ number log at.
-      let there = log_at logs closed made.logs_are number log at in
+      let there = log_at logs closed are number log at in
       there.1.1.1 ∙ subst (λ (p : PlaceView). p.log ≡ of_place number history) there.1.1.0 (have.parts number there.0 there.1.0).log_is;
 }
 
 pub all_at_rest : (regions : ℕ) (history : List Entry) (closed : List PlaceView) → HaveHistory regions history closed → All (λ (place : PlaceView). place.pending ≡ None) closed
 all_at_rest regions history closed have number none low = (have.parts number none low).at_rest
-
--- of one place
-pub all_one : (place : PlaceView) → IsReplayed place → All IsReplayed (place ∷ [])
-all_one place h zero none low = h
-all_one place h (suc k) none low = absurd (omega arith)

@@ -1,9 +1,10 @@
-//! Two cores of a wave at the same time, of which one is held in its first step.
+//! Two cores of a wave at the same time, of which one is held in its first step; and two that enter by their passes.
 ghost use Rattle.std.specs.Prelude.{◌≡◌, ◌+◌, length, IfOk};
 ghost use Rattle.svsm_steps.specs.Requests.{AreScripts};
 ghost use Rattle.place_core.specs.Turned.{EachPlace, IsFresh, apics_of};
 ghost use Rattle.locked_places.specs.Small.{small, caller};
 
+mod entering;
 mod gate;
 
 use super::*;
@@ -29,10 +30,17 @@ fn image(alloc: Global) -> Result<Image, NoMemory>
         state: HwState::Assigned,
         rights: 0,
     };
-    let ranges = Sequence::from_vec(vec![in alloc; ghcb]?);
+    let vmsa = Range {
+        first: Page(0x10),
+        count: 1,
+        owner: Owner::Vmsa,
+        state: HwState::Valid,
+        rights: 0,
+    };
+    let ranges = Sequence::from_vec(vec![in alloc; ghcb, vmsa]?);
     let first = CoreLine {
         apic: 0,
-        seat: None,
+        seat: Some((Page(0x10), Gpa(0x2_0000))),
     };
     let second = CoreLine {
         apic: 1,
@@ -79,7 +87,8 @@ fn caller(core: u32) -> Caller
 
 // Each core shares a page of a region that it alone uses, and then one of the region that both use.
 fn scripts(alloc: Global) -> Result<Vec<Sequence<Request>>, NoMemory>
-    ensures { IfOk result (λ scripts. AreScripts scripts.items) }
+    ensures count { IfOk result (λ scripts. length scripts.items ≡ 2) }
+    ensures scripts { IfOk result (λ scripts. AreScripts scripts.items) }
 {
     let first = vec![in alloc;
         Request::Share { page: Page(513) },

@@ -4,6 +4,7 @@ pub mod KeptLemmas
 pub mod ListLemmas
 pub mod OpenLemmas
 pub mod PoolLemmas
+pub mod ReopenLemmas
 pub mod Sent
 pub mod SoundLemmas
 pub mod StepLemmas

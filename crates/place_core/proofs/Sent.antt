@@ -5,7 +5,9 @@ use denote.Struct.Declared.{shape}
 use Rattle.std.specs.contracts.snapshot.Snapshot.{the_row as snapshot_row}
 use Rattle.svsm_types.specs.contracts.sequence.Sequence.{the_row as sequence_row}
 use Rattle.svsm_types.specs.contracts.image.CoreLine.{the_row as core_row}
+use Rattle.std.proofs.Crossing.{Box-send, Box-sync}
 use Rattle.place_core.specs.contracts.kind.Kind.{the_row as kind_row}
+use Rattle.place_core.specs.contracts.place.Kept.{the_row as kept_row}
 use Rattle.place_core.proofs.place.Kept.TheSendSync as kept
 use Rattle.place_core.specs.contracts.place.Place.{the_row}
 use Rattle.place_core.specs.contracts.place.Place.TheInside as inside
@@ -18,11 +20,11 @@ snapshot_sync row = record { shared = λ d b o κ q. part_keyless (snapshot_row 
 
 pub place_send : IsSend the_row
 place_send = view_send _ _ _ _ _ (recorded_send inside.the_field.row _ _ inside.the_type.to_one
-    (struct_send (shape inside.the_type) (kept.the_field_send, (snapshot_send kind_row, (snapshot_send (sequence_row core_row), tt)))))
+    (struct_send (shape inside.the_type) (Box-send kept_row kept.the_send, (snapshot_send kind_row, (snapshot_send (sequence_row core_row), tt)))))
 
 pub place_sync : IsSync the_row
 place_sync = view_sync _ _ _ _ _ (recorded_sync inside.the_field.row _ _ inside.the_type.to_one
-    (struct_sync (shape inside.the_type) (kept.the_field_sync, (snapshot_sync kind_row, (snapshot_sync (sequence_row core_row), tt)))))
+    (struct_sync (shape inside.the_type) (Box-sync kept_row kept.the_sync, (snapshot_sync kind_row, (snapshot_sync (sequence_row core_row), tt)))))
 
 -- what a search cites where places cross threads
 pub ruleset crossing = (sendable, place_send, place_sync)

@@ -10,6 +10,7 @@ mod lists;
 mod open;
 mod place;
 mod regions;
+mod reopened;
 mod start;
 #[cfg(test)]
 mod tests;
@@ -20,4 +21,5 @@ pub use kind::Kind;
 pub use open::open_places;
 pub use place::Place;
 pub use regions::open_regions;
+pub use reopened::reopen_all;
 pub use turns::Turns;

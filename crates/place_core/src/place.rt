@@ -34,10 +34,11 @@ pub struct Kept {
 
 /// A region, the deposit pool or the registry of vCPUs, with the log of its answers since it was made.
 ///
-/// What it was made as, and the core lines whose APIC ids hold there, are known to contracts alone.
+/// What it was made as, and the core lines whose APIC ids hold there, are known to contracts alone. All else is behind one pointer, so
+/// that a place moves in and out of the slot of its lock at the cost of a word.
 #[derive(Drop)]
 pub struct Place {
-    kept: Kept,
+    kept: Box<Kept>,
     opening: Snapshot<Kind>,
     cores: Snapshot<Sequence<CoreLine>>,
 }
@@ -71,15 +72,16 @@ impl Place {
     {
         let log = Vec::with_capacity(alloc, 1)?;
         let opening = Snapshot::of(&kind);
+        let kept = Kept {
+            number,
+            regions,
+            kind,
+            log,
+            pending: None,
+            spare: None,
+        };
         Ok(Place {
-            kept: Kept {
-                number,
-                regions,
-                kind,
-                log,
-                pending: None,
-                spare: None,
-            },
+            kept: Box::new(alloc, kept)?,
             opening,
             cores,
         })
@@ -176,6 +178,7 @@ impl Place {
             opening: _,
             cores,
         } = self;
+        let kept = Box::into_inner(kept);
         let place = Place::begin(alloc, kept.regions, kept.number, kept.kind, cores)?;
         Ok((place, kept.log))
     }
@@ -219,16 +222,11 @@ impl PlaceState for Place {
         ensures state { value_of self.new.kind ≡ value_of self.old.kind }
         ensures spare { OnOk result (self.new.spare ≡ Some step.now) }
     {
-        self.kept.spare = None;
-        room_for(
-            &mut self.kept.kind,
-            alloc,
-            self.kept.regions,
-            self.kept.number,
-            step,
-        )?;
-        self.kept.log.reserve(1)?;
-        self.kept.spare = Some(*step);
+        let kept = &mut *self.kept;
+        kept.spare = None;
+        room_for(&mut kept.kind, alloc, kept.regions, kept.number, step)?;
+        kept.log.reserve(1)?;
+        kept.spare = Some(*step);
         Ok(())
     }
 
@@ -246,13 +244,9 @@ impl PlaceState for Place {
         ensures answer { IsAnswer self.old.regions step.now result }
         ensures pending { self.new.pending ≡ Some (record { core = core; step = step.now; answer = result }) }
     {
-        let answer = act_on(
-            &mut self.kept.kind,
-            self.kept.regions,
-            self.kept.number,
-            step,
-        );
-        self.kept.pending = Some(Pending {
+        let kept = &mut *self.kept;
+        let answer = act_on(&mut kept.kind, kept.regions, kept.number, step);
+        kept.pending = Some(Pending {
             core,
             step: *step,
             answer,
@@ -275,9 +269,10 @@ impl PlaceState for Place {
         ensures pending { self.new.pending ≡ None }
         ensures spare { self.new.spare ≡ None }
     {
-        self.kept.log.push_reserved(entry);
-        self.kept.pending = None;
-        self.kept.spare = None;
+        let kept = &mut *self.kept;
+        kept.log.push_reserved(entry);
+        kept.pending = None;
+        kept.spare = None;
     }
 
     fn entries(&self) -> &[Entry]

@@ -1,5 +1,5 @@
 -- The laws of all runs, at a run of the top call; and why its cores end.
-use Rattle.std.proofs.Common.{◌≡◌, ℕ, ◌+◌, ◌<◌, Bool, true, false, List, [], ◌∷◌, ◌++◌, length, map, refl, sym, ap, ◌∙◌, subst, ⊎_elim, inl, inr, arith}
+use Rattle.std.proofs.Common.{◌≡◌, ℕ, zero, suc, ◌+◌, ◌<◌, ◌≤◌, Bool, true, false, List, [], ◌∷◌, ◌++◌, length, map, refl, sym, ap, ◌∙◌, subst, ⊎_elim, inl, inr, arith}
 use Rattle.std.specs.Prelude.{◌⊎◌, ◌==◌, if◌then◌else◌, filter, Contains, IsTrue}
 use Rattle.std.proofs.lemmas.Bool.{eqb-true, eq-eqb}
 use Rattle.svsm_types.specs.declared.image.Image.{Image}
@@ -30,6 +30,8 @@ use Rattle.svsm_calls.specs.World.{Scripted, fresh_world, world_after, run_answe
 use Rattle.svsm_calls.specs.CoreRun.{IsCoreRun, done, faulted, host, ArePieces, none, one_more, IsPiece, IsStepPiece, outside, stepped, IsCallPiece, IsCallCut, IsCutOff, run_value}
 use Rattle.svsm_calls.specs.Waves.{is_among}
 use Rattle.svsm_calls.specs.Run.{IsRun, IsStarted, IsCore, AreCores, script_of}
+use Rattle.svsm_calls.proofs.Bounds.{piece_steps, cut_off_steps, core_steps}
+use Rattle.svsm_calls.proofs.Success.{admitted_succeeds}
 use Rattle.svsm_run_laws.proofs.Lists.{contains_head, contains_tail, contains_cases, contains_middle}
 use Rattle.svsm_run_laws.proofs.Filtered.{First, filtered}
 use Rattle.svsm_run_laws.proofs.Waves.{Line, of_waves, of_lines, line_of}
@@ -38,7 +40,7 @@ use Rattle.svsm_run_laws.proofs.Every.{keep_partition, none_odd, rows_apart}
 use Rattle.svsm_run_laws.proofs.OwnRowsRuns.{reserved_rows_are}
 use Rattle.svsm_run_laws.proofs.Resumed.{once_in_runs, calls_are_in_order}
 use Rattle.svsm_run_laws.proofs.Alone.{cores_apart_answer_alone}
-use Rattle.run_core_top.specs.Accounted.{is_fault, EndsFor, EndsByFault, IsAccounted}
+use Rattle.run_core_top.specs.Accounted.{is_fault, EndsFor, EndsByFault, OfOneRequest, IsAccounted}
 
 -- WHY A CORE ENDS
 
@@ -287,6 +289,34 @@ ends_by_fault image scripts trace cores run entry has fault =
           fault;
     }
 
+-- HOW MANY ENTRIES THERE ARE
+
+request_steps : (steps : List Made) → OfOneRequest steps → length steps ≤ 2049
+request_steps steps (caller, request, events, inl (outcome, is)) = piece_steps caller request steps events outcome is
+request_steps steps (caller, request, events, inr (ticket, is)) = cut_off_steps caller request steps events ticket is
+
+script_is_few : (scripts : List (List Request)) (core : ℕ) → AreScripts scripts → length (script_of scripts core) ≤ 128
+script_is_few [] core formed = omega arith
+script_is_few (script ∷ scripts) zero formed = (formed zero [] (omega arith)).few
+script_is_few (script ∷ scripts) (suc core) formed = script_is_few scripts core (λ k none low. formed (suc k) none (omega (arith, low)))
+
+core_steps_of : (image : Image) (scripts : List (List Request)) (trace : List Entry) (cores : List CoreRun) → AreScripts scripts
+    → (run : IsRun image scripts trace cores) (core : ℕ) (b : Bool) → is_among core run.ran ≡ b
+    → (made : List Made) → made_by core trace ≡ made → length made ≤ 262274
+core_steps_of image scripts trace cores formed run core true among made is =
+    let low : core < length image.cores = of_lines image trace run.ran run.waves core among in
+    let line : Line image scripts trace run.ran cores core = line_of image scripts trace run.ran cores core run.each low in
+    let its : IsCore true image core (script_of scripts core) (made_by core trace) line.run =
+    subst (λ (b : Bool). IsCore b image core (script_of scripts core) (made_by core trace) line.run) among line.gave in
+    subst (λ (l : List Made). length l ≤ 262274) is
+    (core_steps image core (script_of scripts core) (made_by core trace) line.run.outcomes line.run.end (script_is_few scripts core formed) its.1)
+core_steps_of image scripts trace cores formed run core false among [] is = omega arith
+core_steps_of image scripts trace cores formed run core false among (m ∷ made) is =
+    let here : IsMadeIn trace core m = made_in trace core m (subst (λ (l : List Made). Contains l m) (sym is) (contains_head m made)) in
+    let there : is_among core run.ran ≡ true =
+    subst (λ (c : ℕ). is_among c run.ran ≡ true) here.of_core (of_waves image trace run.ran run.waves here.entry here.of_trace) in
+    absurd cc
+
 -- ALL LAWS
 
 pub accounted : (image : Image) (scripts : List (List Request)) (trace : List Entry) (cores : List CoreRun)
@@ -300,6 +330,10 @@ accounted image scripts trace cores sound formed run = record {
   once = once_in_runs (constants_of image) 0 (booted image) trace run.legal;
   in_order = calls_are_in_order (constants_of image) 0 (booted image) trace run.legal;
   alone = cores_apart_answer_alone image scripts trace cores sound formed run;
+  few_of_requests = λ core before steps after stands is. request_steps steps is;
+  few_of_cores = λ core. core_steps_of image scripts trace cores formed run core (is_among core run.ran) refl (made_by core trace) refl;
+  admitted = λ core pend caller regs steps polls end stands is quiet.
+      admitted_succeeds pend caller regs (pairs_of steps) polls end stands.call is quiet;
   ends = cores_end image scripts trace run.ran 0 image.cores cores run.each;
   faults = ends_by_fault image scripts trace cores run;
 }

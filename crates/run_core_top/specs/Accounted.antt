@@ -1,20 +1,27 @@
 -- What holds of the run of an image, by the laws of all runs.
-use Rattle.std.specs.Prelude.{◌≡◌, ℕ, Bool, true, false, List, ◌∷◌, ◌++◌, Contains, ⊤}
+use Rattle.std.specs.Prelude.{◌≡◌, ℕ, ◌≤◌, ◌⊎◌, Bool, true, false, List, ◌∷◌, ◌++◌, length, Contains, IsTrue, ⊤}
 use Rattle.svsm_types.specs.declared.image.Image.{Image}
+use Rattle.svsm_types.specs.declared.call.Regs.{Regs}
 use Rattle.svsm_types.specs.declared.request.Request.{Request}
 use Rattle.svsm_steps.specs.declared.answer.Answer.{Answer}
 use Rattle.svsm_steps.specs.declared.answer.Answer.TheVariants.{Fault}
+use Rattle.svsm_steps.specs.declared.call.Caller.{Caller}
+use Rattle.svsm_steps.specs.declared.call.Do.{Do}
 use Rattle.svsm_steps.specs.declared.entry.Entry.{Entry}
+use Rattle.svsm_steps.specs.declared.outcome.Outcome.{Outcome}
 use Rattle.svsm_steps.specs.declared.outcome.CoreEnd.{CoreEnd}
 use Rattle.svsm_steps.specs.declared.outcome.CoreEnd.TheVariants as ends
 use Rattle.svsm_steps.specs.declared.outcome.CoreRun.{CoreRun}
+use Rattle.svsm_steps.specs.Made.{Made, made_by}
 use Rattle.svsm_steps.specs.State.{State}
 use Rattle.svsm_steps.specs.Machine.{state_after}
 use Rattle.svsm_steps.specs.Image.{constants_of, booted}
 use Rattle.svsm_steps.specs.Partition.{PartitionAlong}
 use Rattle.svsm_steps.specs.Odd.{NoneOdd}
 use Rattle.svsm_calls.specs.World.{run_answer}
-use Rattle.svsm_calls.specs.CoreRun.{is_run_answer}
+use Rattle.svsm_calls.specs.CoreRun.{is_run_answer, IsPiece, IsCutOff}
+use Rattle.svsm_calls.specs.Events.{Event, pairs_of}
+use Rattle.svsm_calls.specs.Admitted.{IsAdmitted, none_stops, Succeeds}
 use Rattle.svsm_calls.specs.Calls.{ListCall}
 use Rattle.svsm_calls.specs.Once.{CallMade, Once}
 use Rattle.svsm_calls.specs.Resumed.{IsInOrder}
@@ -23,6 +30,7 @@ use Rattle.svsm_calls.specs.Alone.{AnswersApart}
 use Rattle.svsm_laws.specs.Consistent.{IsConsistent}
 use Rattle.svsm_run_laws.specs.Kept.{RowsApart}
 use Rattle.svsm_run_laws.specs.OwnRows.{ReservedRowsAre}
+use Rattle.svsm_run_laws.specs.Replies.{IsCallOf}
 
 -- the platform faulted
 abbrev pub is_fault : Answer → Bool
@@ -58,6 +66,12 @@ pub record EndsByFault (cores : List CoreRun) (entry : Entry) : Type 0 where
 abbrev pub state_by : Image → List Entry → State
 state_by image entries = state_after (constants_of image) (booted image) entries
 
+-- the steps of one request, which is over or was cut off by a fault
+abbrev pub OfOneRequest : List Made → Type 0
+OfOneRequest steps =
+    (caller : Caller) × (request : Request) × (events : List Event)
+    × (((outcome : Outcome) × IsPiece caller request steps events outcome) ⊎ ((ticket : ℕ) × IsCutOff caller request steps events ticket))
+
 -- a run of an image and its scripts, with what its cores gave
 pub record IsAccounted (image : Image) (scripts : List (List Request)) (trace : List Entry) (cores : List CoreRun) : Type 0 where
   -- the state is consistent, before and after each entry: shut, with rights, blocks and rows as they have to be
@@ -79,6 +93,15 @@ pub record IsAccounted (image : Image) (scripts : List (List Request)) (trace : 
       → IsInOrder (constants_of image) (booted image) trace call list made
   -- cores that share nothing answer as each of them would alone
   pub alone : IsApart image.regions trace → AnswersApart image scripts trace cores
+  -- a request makes at most 2,049 entries, also where a fault cuts it off; and a core at most 262,274
+  pub few_of_requests :
+      (core : ℕ) (before steps after : List Made) → made_by core trace ≡ before ++ (steps ++ after) → OfOneRequest steps → length steps ≤ 2049
+  pub few_of_cores : (core : ℕ) → length (made_by core trace) ≤ 262274
+  -- each admitted call that no poll stopped and no fault ended replies success
+  pub admitted :
+      (core : ℕ) (pend : Bool) (caller : Caller) (regs : Regs) (steps : List Made) (polls : List Bool) (end : Do)
+      → IsCallOf core trace pend caller regs steps polls end
+      → IsAdmitted caller regs (pairs_of steps) → IsTrue (none_stops polls) → Succeeds end
   -- each core that did not make all its requests has its cause, and each fault ends its core
   pub ends : (run : CoreRun) → Contains cores run → EndsFor image trace run.core run.end
   pub faults : (entry : Entry) → Contains trace entry → is_fault entry.answer ≡ true → EndsByFault cores entry

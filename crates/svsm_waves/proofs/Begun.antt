@@ -17,7 +17,8 @@ use Rattle.place_core.specs.Opened.{IsOpened}
 use Rattle.place_core.specs.Turned.{TurnsView, EachPlace, IsFresh, apics_of, openings_of, AreClosed}
 use Rattle.svsm_waves.specs.Raised.{raised}
 use Rattle.svsm_waves.specs.Trace.{IsRecorded}
-use Rattle.svsm_waves.specs.InTurn.{IsKept, AreBegun, AreOpened, AreReopened, AreAtRest, StandFor, reopened, trace_of}
+use Rattle.place_core.specs.Reopened.{AreReopened, AreAtRest, reopened}
+use Rattle.svsm_waves.specs.InTurn.{IsKept, AreBegun, AreOpened, StandFor, trace_of}
 use Rattle.locked_places.specs.Wave.{StandAfterWave}
 use Rattle.svsm_waves.specs.Joined.{opened_now, recorded_now}
 use Rattle.svsm_waves.proofs.Reopened.{stand_again}

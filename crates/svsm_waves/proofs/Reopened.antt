@@ -23,7 +23,8 @@ use Rattle.place_core.specs.Kinds.{value_of, numbers_of, is_region, is_registry}
 use Rattle.place_core.specs.Numbered.{numbers_along}
 use Rattle.place_core.specs.PlaceView.{PlaceView, new_place}
 use Rattle.place_core.specs.Turned.{TurnsView, AreClosed, openings_of}
-use Rattle.svsm_waves.specs.InTurn.{IsKept, StandAfter, IsReplayed, AreReopened, reopened, trace_of}
+use Rattle.place_core.specs.Reopened.{IsReplayed, AreReopened, reopened}
+use Rattle.svsm_waves.specs.InTurn.{IsKept, StandAfter, trace_of}
 use Rattle.svsm_waves.specs.Joined.{value_now}
 
 -- CLOSED PLACES
@@ -158,8 +159,3 @@ pub rows_by : (image : Image) (state : State) (number : ℕ) (kind : Kind) (own 
     → value_of kind ≡ place_in (constants_of image) state number → kind ≡ Kinds.Registry own → rows ≡ own.rows → rows ≡ state.rows
 rows_by image state number kind own rows last is kind_is rows_are =
     rows_are ∙ ap rows_from (ap value_of (sym kind_is) ∙ (is ∙ place_in-value registry (constants_of image) state number last))
-
--- of one place
-pub all_one : (place : PlaceView) → IsReplayed place → All IsReplayed (place ∷ [])
-all_one place h zero d low = h
-all_one place h (suc k) d low = absurd (omega arith)

@@ -1,6 +1,5 @@
 -- Places that are taken in turn behind the waves before: what stands of them, and what they add to the history.
-use Rattle.std.specs.Prelude.{◌≡◌, ℕ, ◌+◌, ◌<◌, ◌≤◌, ◌++◌, None, List, map, length, slice_index_or}
-use Rattle.std.specs.List.{All}
+use Rattle.std.specs.Prelude.{◌≡◌, ℕ, ◌+◌, ◌<◌, ◌≤◌, ◌++◌, List, length, slice_index_or}
 use Rattle.svsm_types.specs.Numbers.{Numbers}
 use Rattle.svsm_types.specs.declared.image.Image.{Image}
 use Rattle.svsm_steps.specs.declared.entry.Entry.{Entry}
@@ -8,12 +7,11 @@ use Rattle.svsm_steps.specs.State.{State, Constants}
 use Rattle.svsm_steps.specs.Machine.{state_after}
 use Rattle.svsm_steps.specs.NextEntry.{numbers_after_all}
 use Rattle.svsm_steps.specs.Image.{constants_of, booted, booted_numbers}
-use Rattle.svsm_steps.specs.Lawful.{IsReplayOf}
 use Rattle.svsm_steps.specs.Places.{place_in, replay, of_place}
 use Rattle.place_core.specs.declared.kind.Kind.{Kind}
 use Rattle.place_core.specs.Kinds.{value_of, numbers_of}
-use Rattle.place_core.specs.Numbered.{numbers_along, NumbersAlong}
-use Rattle.place_core.specs.PlaceView.{PlaceView, new_place}
+use Rattle.place_core.specs.Numbered.{numbers_along}
+use Rattle.place_core.specs.PlaceView.{PlaceView}
 use Rattle.place_core.specs.Turned.{TurnsView, EachPlace, IsFresh, IsHistory, AreLogs, openings_of}
 use Rattle.svsm_waves.specs.Trace.{IsRecorded}
 use Rattle.svsm_waves.specs.Raised.{raised}
@@ -51,24 +49,6 @@ pub record StandAfter (turns : TurnsView) (now : List Kind) : Type 0 where
       → numbers_of (slice_index_or now number none)
       ≡ numbers_along turns.apics (numbers_of (slice_index_or turns.openings number none)) (value_of (slice_index_or turns.openings number none))
       (of_place number turns.history)
-
--- nothing is pending
-abbrev pub AreAtRest : List PlaceView → Type 0
-AreAtRest places = All (λ (place : PlaceView). place.pending ≡ None) places
-
--- the place as it stands, with an empty log
-abbrev pub reopened : PlaceView → PlaceView
-reopened place = new_place place.regions place.number place.apics place.kind
-
--- a place at rest stands as its log leaves it
-pub record IsReplayed (place : PlaceView) : Type 0 where
-  pub replay : IsReplayOf place.apics (value_of place.opening) place.log (value_of place.kind)
-  pub numbers : NumbersAlong place.apics (numbers_of place.opening) (value_of place.opening) place.log (numbers_of place.kind)
-
--- places at rest, and the same ones as they stand, with empty logs
-pub record AreReopened (closed opened : List PlaceView) : Type 0 where
-  pub are : opened ≡ map reopened closed
-  pub replayed : All IsReplayed closed
 
 -- places with their numbers, at rest, without a log
 pub record AreBegun (image : Image) (places : List PlaceView) : Type 0 where

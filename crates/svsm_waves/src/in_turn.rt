@@ -13,13 +13,13 @@ ghost use Rattle.svsm_waves.specs.Wave.{AddedBy, AreStarted, HasEntered, Rises, 
 ghost use Rattle.boot_core.specs.Boots.{BootEnds, Boots};
 ghost use Rattle.svsm_waves.specs.Raised.{raised};
 ghost use Rattle.svsm_waves.specs.RaisedLaws.{numbered};
-ghost use Rattle.svsm_waves.specs.InTurn.{IsKept, trace_of, AreBegun, AreReopened, AreAtRest, StandFor};
+ghost use Rattle.svsm_waves.specs.InTurn.{IsKept, trace_of, AreBegun, StandFor};
 ghost use Rattle.svsm_waves.specs.Kept.{kept_prop, recorded_behind};
 
 use crate::History;
 use boot_core::{BootError, boot_image};
 use locked_places::{Wave, run_wave};
-use place_core::{Place, Turns, open_places, open_regions};
+use place_core::{Place, Turns, open_places, open_regions, reopen_all};
 use region_core::Region;
 use rmp_table::PackedRmp;
 use std::alloc::Global;
@@ -34,7 +34,7 @@ pub struct InTurn<'a> {
     image: &'a Image,
     /// The entries of the waves before.
     past: Vec<Entry>,
-    /// The places, and the entries of this wave, whose tickets begin at 0.
+    /// The places, and the Enter steps since the last wave, whose tickets begin at 0.
     turns: Turns,
     ghost kept: { IsKept image.now past.items turns } by { kept_prop image.now past.items turns },
 }
@@ -51,19 +51,6 @@ fn booted_regions(alloc: Global, image: &Image) -> Result<Vec<Region<PackedRmp>>
     let mut regions = open_regions(alloc, image)?;
     boot_image(alloc, &mut regions, image)?;
     Ok(regions)
-}
-
-// Each place as it stands, with an empty log.
-fn reopened(alloc: Global, closed: Vec<Place>) -> Result<Vec<Place>, NoMemory>
-    requires { AreAtRest closed.items }
-    ensures { IfOk result (λ places. AreReopened closed.items places.items) }
-{
-    let mut places = Vec::with_capacity(alloc, closed.len())?;
-    'places: for place in closed {
-        let (place, _) = place.reopen(alloc)?;
-        places.push(place)?;
-    }
-    Ok(places)
 }
 
 // The entries of a wave behind others, with the tickets that follow.
@@ -125,7 +112,7 @@ impl<'a> InTurn<'a> {
     {
         let InTurn { past, turns, .. } = self;
         let (closed, wave) = turns.close();
-        let places = reopened(alloc, closed)?;
+        let (places, _) = reopen_all(alloc, closed)?;
         Ok((joined(past, wave)?, places))
     }
 

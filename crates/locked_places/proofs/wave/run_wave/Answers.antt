@@ -18,7 +18,7 @@ returns-clause-places g c =
     (between image c.args.scripts.now c.args.before c.args.callers.now c.args.places.items _ _ c.requires.count c.requires.fresh waved) in
     subst (λ (h : List Entry). StandAfterWave image.regions c.args.places.items h c.in_ok-places.places.items) (sym history)
     (stand_again image c.args.scripts.now c.args.before c.args.callers.now c.args.places.items _ _ c.requires.count c.requires.fresh waved
-    c.in_ok-places.places.items c.in_ok-places.ensures.places c.in_ok-places.ensures.replayed)
+    c.in_ok-places.places.items c.in_ok-places.ensures.places.are c.in_ok-places.ensures.places.replayed)
 
 pub returns-clause-own : goal.returns-clause-own
 returns-clause-own g c =

@@ -13,7 +13,7 @@ returns-clause-past c =
 pub returns-clause-places : goal.returns-clause-places
 returns-clause-places c =
     let was = c.args.self in
-    again_begun was.image.now was.past.items was.turns c.close-closed.result.0.items c.in_ok-places.places.items was.kept c.close-closed.ensures.closed c.in_ok-places.ensures
+    again_begun was.image.now was.past.items was.turns c.close-closed.result.0.items c.in_ok-places.places.items was.kept c.close-closed.ensures.closed c.in_ok-places.ensures.places
 
 pub returns-clause-opened : goal.returns-clause-opened
 returns-clause-opened c =
@@ -21,4 +21,4 @@ returns-clause-opened c =
     let all : c.in_ok-joined.field-0.items ≡ trace_of was.past.items was.turns =
     c.in_ok-joined.ensures ∙ ap (λ (l : List Entry). was.past.items ++ raised (length was.past.items) l) c.close-closed.ensures.history in
     again_stand was.image.now was.past.items c.in_ok-joined.field-0.items was.turns c.close-closed.result.0.items c.in_ok-places.places.items was.kept
-    c.close-closed.ensures.closed c.in_ok-places.ensures all
+    c.close-closed.ensures.closed c.in_ok-places.ensures.places all
