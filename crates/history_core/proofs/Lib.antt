@@ -1,3 +1,4 @@
+pub mod BehindLemmas
 pub mod MergeLemmas
 pub mod OnceLemmas
 pub mod RisingLemmas

@@ -13,11 +13,11 @@ use Rattle.svsm_steps.specs.Places.{of_place}
 use Rattle.history_core.specs.Merged.{entries_in, IsBelow, IsRising, AreLogsOf}
 
 -- the entry stands in the list
-abbrev Has : List Entry → Entry → Type 0
+abbrev pub Has : List Entry → Entry → Type 0
 Has [] e = ⊥
 Has (x ∷ xs) e = (e ≡ x) ⊎ Has xs e
 
-below_has : (t : ℕ) (xs : List Entry) (e : Entry) → IsBelow t xs → Has xs e → t < e.ticket
+pub below_has : (t : ℕ) (xs : List Entry) (e : Entry) → IsBelow t xs → Has xs e → t < e.ticket
 below_has t [] e low h = absurd h
 below_has t (x ∷ xs) e low h = ⊎_elim (λ (s : e ≡ x). subst (λ (z : Entry). t < z.ticket) (sym s) low.0) (λ r. below_has t xs e low.1 r) h
 
@@ -41,18 +41,18 @@ pub rising_history : (n : ℕ) (h : List Entry) → HaveTicketsFrom n h → IsRi
 rising_history n [] all = tt
 rising_history n (x ∷ xs) all = let t : x.ticket ≡ n = all.0 in (below_history (n + 1) x.ticket xs all.1 (omega arith), rising_history (n + 1) xs all.1)
 
-inside_history : (r : ℕ) (h : List Entry) (e : Entry) → AreBelow r h → Has h e → e.place < r + 2
+pub inside_history : (r : ℕ) (h : List Entry) (e : Entry) → AreBelow r h → Has h e → e.place < r + 2
 inside_history r [] e all h = absurd h
 inside_history r (x ∷ xs) e all h = ⊎_elim (λ (s : e ≡ x). subst (λ (z : Entry). z.place < r + 2) (sym s) all.0) (λ t. inside_history r xs e all.1 t) h
 
-all_more : (P Q : Entry → Type 0) (xs : List Entry) → ((e : Entry) → P e → Q e) → All P xs → All Q xs
+pub all_more : (P Q : Entry → Type 0) (xs : List Entry) → ((e : Entry) → P e → Q e) → All P xs → All Q xs
 all_more P Q xs f all k d low = f _ (all k d low)
 
-has_all : (xs : List Entry) → All (Has xs) xs
+pub has_all : (xs : List Entry) → All (Has xs) xs
 has_all [] = All-nil (Has [])
 has_all (x ∷ xs) = All-cons (Has (x ∷ xs)) x xs (inl refl) (all_more (Has xs) (Has (x ∷ xs)) xs (λ e h. inr h) (has_all xs))
 
-all_has : (P : Entry → Type 0) (xs : List Entry) (e : Entry) → All P xs → Has xs e → P e
+pub all_has : (P : Entry → Type 0) (xs : List Entry) (e : Entry) → All P xs → Has xs e → P e
 all_has P [] e all h = absurd h
 all_has P (x ∷ xs) e all h = ⊎_elim (λ (s : e ≡ x). subst P (sym s) (all zero x (omega arith))) (λ r. all_has P xs e (λ k d low. all (suc k) d (omega arith)) r) h
 

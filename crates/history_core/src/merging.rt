@@ -1,5 +1,5 @@
 //! Logs merged by ticket.
-ghost use Rattle.std.specs.Prelude.{◌≡◌, ℕ, ◌≤◌, ◌++◌, List, IfOk, OnOk, IsPermutation};
+ghost use Rattle.std.specs.Prelude.{◌≡◌, ℕ, ◌≤◌, ◌++◌, List, length, min, IfOk, OnOk, IsPermutation};
 ghost use Rattle.svsm_steps.specs.declared.entry.Entry.{Entry};
 ghost use Rattle.history_core.specs.Merged.{times, entries_in, IsRising, AreLogsOf};
 
@@ -21,10 +21,12 @@ pub fn merge(alloc: Global, logs: Vec<Vec<Entry>>) -> Result<Vec<Entry>, NoMemor
     Ok(all)
 }
 
-// How many entries the logs have.
-fn count_of(logs: &[Vec<Entry>]) -> usize {
+// How many entries the logs have, or the greatest number where that is less.
+pub(crate) fn count_of(logs: &[Vec<Entry>]) -> usize
+    ensures { result ≡ min (length (entries_in logs.now)) usize.MAX }
+{
     let mut count = 0usize;
-    for log in logs {
+    'logs: for log in logs {
         count = count.saturating_add(log.len());
     }
     count

@@ -1,5 +1,5 @@
 -- What the cores of a wave left, which ran at the same time over places behind their locks. This project's own.
-use Rattle.std.specs.Prelude.{◌≡◌, ℕ, ◌+◌, ◌<◌, IsTrue, List, [], ◌∷◌, map, length, slice_index_or, ⊤}
+use Rattle.std.specs.Prelude.{◌≡◌, ℕ, ◌+◌, ◌<◌, IsTrue, List, [], ◌∷◌, ◌++◌, map, length, slice_index_or, ⊤}
 use Rattle.std.specs.List.{list_all}
 use Rattle.svsm_types.specs.declared.image.Image.{Image}
 use Rattle.svsm_types.specs.declared.request.Request.{Request}
@@ -20,6 +20,8 @@ use Rattle.place_core.specs.Numbered.{numbers_along}
 use Rattle.place_core.specs.PlaceView.{PlaceView}
 use Rattle.place_core.specs.Turned.{EachPlace, IsFresh, IsHistory, AreLogs, apics_of, openings_of}
 use Rattle.core_loop.specs.Locked.{raise_made}
+use Rattle.history_core.specs.Raised.{raised}
+use Rattle.locked_places.specs.declared.wave.Wave.{Wave}
 
 -- callers of an image, in the order of their cores, from this core number on
 abbrev pub AreCallers : Image → ℕ → List Caller → Type 0
@@ -63,3 +65,14 @@ AreRunsOf image scripts before history (caller ∷ callers) [] = ⊥
 abbrev pub AreOfCallers : List Caller → List Entry → Type 0
 AreOfCallers callers history =
     IsTrue (list_all (λ (entry : Entry). is_among entry.core (map (λ (caller : Caller). caller.core) callers)) history)
+
+-- What the cores of a wave left behind these entries, from the places that were given: the wave has one history, with tickets from
+-- 0 on, which stands behind the entries with its tickets raised by their number
+pub record IsWaveBehind
+    (image : Image) (scripts : List (List Request)) (callers : List Caller) (past : List Entry) (given : List PlaceView) (wave : Wave)
+    : Type 0 where
+  pub history : List Entry
+  pub behind : wave.trace.items ≡ past ++ raised (length past) history
+  pub places : StandAfterWave image.regions given history wave.places.items
+  pub own : AreOfCallers callers history
+  pub runs : AreRunsOf image scripts (length past) history callers wave.runs.items

@@ -15,9 +15,9 @@ use std::alloc::Global;
 use std::sync::Wait;
 use std::test::Fail;
 use std::thread::Threads;
-use svsm_steps::{Caller, CoreEnd, Outcome, PlaceState};
+use svsm_steps::{Answer, Caller, CoreEnd, Entry, Outcome, PlaceState, Step};
 use svsm_types::{
-    CoreLine, Gpa, HwState, Image, NoMemory, Owner, Page, Range, Request, Sequence, Vmpl,
+    CoreLine, Gpa, HwState, Image, NoMemory, Owner, Page, Range, Request, Sequence, Size, Vmpl,
 };
 
 fn image(alloc: Global) -> Result<Image, NoMemory>
@@ -101,6 +101,21 @@ fn scripts(alloc: Global) -> Result<Vec<Sequence<Request>>, NoMemory>
     Ok(vec![in alloc; Sequence::from_vec(first), Sequence::from_vec(second)]?)
 }
 
+// Seven entries of another core at the pool, before the wave.
+fn past(alloc: Global) -> Result<Vec<Entry>, NoMemory> {
+    let mut past = Vec::new(alloc);
+    for ticket in 0..7 {
+        past.push(Entry {
+            ticket,
+            core: 5,
+            place: 3,
+            step: Step::PoolPop { size: Size::Small },
+            answer: Answer::Empty { left: 0 },
+        })?;
+    }
+    Ok(past)
+}
+
 fn two_cores<R: Threads + Wait + Sync>(
     rt: &R,
     alloc: Global,
@@ -109,8 +124,9 @@ fn two_cores<R: Threads + Wait + Sync>(
     let image = image(alloc)?;
     let places = places(alloc, &image)?;
     let scripts = scripts(alloc)?;
+    let past = past(alloc)?;
     let callers = [caller(0), caller(1)];
-    run_wave(rt, alloc, gate, &image, &scripts, 7, places, &callers)
+    run_wave(rt, alloc, gate, &image, &scripts, past, places, &callers)
 }
 
 #[test]
@@ -127,9 +143,13 @@ fn a_held_core_steps_after_the_other(rt: HostRuntime) -> Result<(), Fail> {
     let both = [Outcome::Done, Outcome::Done];
     assert_eq!(rt; first.outcomes.as_slice(), both.as_slice());
     assert_eq!(rt; second.outcomes.as_slice(), both.as_slice());
-    assert_eq!(rt; (wave.history.len(), wave.places.len()), (6, 5));
-    assert_eq!(rt; (wave.history[0].core, wave.history[0].place), (1, 2));
-    let common = of_place(rt.alloc(), &wave.history, 0)?;
+    assert_eq!(rt; (wave.trace.len(), wave.places.len()), (13, 5));
+    for (number, entry) in wave.trace.iter().enumerate() {
+        assert_eq!(rt; entry.ticket, number as u64);
+        assert_eq!(rt; entry.core == 5, number < 7);
+    }
+    assert_eq!(rt; (wave.trace[7].core, wave.trace[7].place), (1, 2));
+    let common = of_place(rt.alloc(), &wave.trace, 0)?;
     assert_eq!(rt; common.len(), 2);
     assert_eq!(rt; (common[0].core, common[1].core), (1, 0));
     assert!(rt; wave.places.iter().all(|place| place.entries().is_empty()));

@@ -3,7 +3,7 @@ ghost use Rattle.std.specs.Prelude.{◌≡◌, ◌+◌, ◌^◌, ◌<◌, ◌≤
 ghost use Rattle.svsm_steps.specs.Sound.{IsSound};
 ghost use Rattle.svsm_steps.specs.Requests.{AreScripts};
 ghost use Rattle.place_core.specs.Turned.{EachPlace, IsFresh, apics_of};
-ghost use Rattle.locked_places.specs.Wave.{AreCallers, AreOfCallers, AreRunsOf, StandAfterWave};
+ghost use Rattle.locked_places.specs.Wave.{AreCallers, IsWaveBehind};
 ghost use Rattle.locked_places.specs.Ended.{AreWaved};
 
 use crate::job::{Job, run_jobs};
@@ -17,12 +17,12 @@ use std::thread::Threads;
 use svsm_steps::{Caller, CoreRun, Entry, Gate};
 use svsm_types::{Image, NoMemory, Request, Sequence};
 
-/// What the cores of a wave left: the places as they stand, with empty logs; the entries of the wave, with tickets from 0 on;
-/// and what each core gave, in the order of the callers.
+/// What the cores of a wave left: the places as they stand, with empty logs; the entries before the wave, and behind them those
+/// of the wave, with the tickets that follow; and what each core gave, in the order of the callers.
 #[derive(Drop)]
 pub struct Wave {
     pub places: Vec<Place>,
-    pub history: Vec<Entry>,
+    pub trace: Vec<Entry>,
     pub runs: Vec<CoreRun>,
 }
 
@@ -73,39 +73,35 @@ fn closed_wave<R: Threads + Wait + Sync, G: Gate + Sync>(
 }
 
 /// Lets cores that have entered their guests carry out their scripts at the same time, each in a thread of its own, over the
-/// places behind a lock each. The tickets that their runs tell are behind `before` entries. Where memory is wanted by one core,
-/// the others end, and all is given up.
+/// places behind a lock each. The tickets of the wave, and those that its runs tell, are behind the entries of `past`. Where
+/// memory is wanted by one core, the others end, and all is given up.
 pub fn run_wave<R: Threads + Wait + Sync, G: Gate + Sync>(
     rt: &R,
     alloc: Global,
     gate: &G,
     image: &Image,
     scripts: &[Sequence<Request>],
-    before: u64,
+    past: Vec<Entry>,
     places: Vec<Place>,
     callers: &[Caller],
 ) -> Result<Wave, NoMemory>
     requires sound { IsSound image.now }
     requires scripts { AreScripts scripts.now }
-    requires far { before < 2 ^ 63 }
     requires count { length places.items ≡ image.now.regions + 2 }
     requires fresh { EachPlace places.items (IsFresh image.now.regions (apics_of places.items)) }
     requires callers { AreCallers image.now 0 callers.now }
-    ensures places { IfOk result (λ wave.
-        StandAfterWave image.now.regions places.items wave.history.items wave.places.items) }
-    ensures own { IfOk result (λ wave. AreOfCallers callers.now wave.history.items) }
-    ensures runs { IfOk result (λ wave.
-        AreRunsOf image.now scripts.now before wave.history.items callers.now wave.runs.items) }
+    ensures { IfOk result (IsWaveBehind image.now scripts.now callers.now past.items places.items) }
 {
+    let before = past.len() as u64;
     let jobs = Vec::with_capacity(alloc, callers.len())?;
     let runs = Vec::with_capacity(alloc, callers.len())?;
     let (closed, runs) = closed_wave(
         rt, alloc, gate, image, scripts, before, places, callers, jobs, runs,
     )?;
-    let (places, history) = with_history(alloc, closed)?;
+    let (places, trace) = with_history(alloc, past, closed)?;
     Ok(Wave {
         places,
-        history,
+        trace,
         runs,
     })
 }

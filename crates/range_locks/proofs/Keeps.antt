@@ -1,6 +1,6 @@
 -- Each step keeps the rule of the table.
 use Rattle.std.specs.Prelude.{◌==◌}
-use Rattle.std.proofs.Common.{Bool, ◌≡◌, ◌≢◌, ℕ, zero, suc, ◌+◌, ◌*◌, ◌%◌, ◌^◌, ◌<◌, ◌≤◌, eqb, List, [], ◌∷◌, ◌++◌, map, length, get_or, set, sym, refl, ap, ◌∙◌, subst, ⊎_elim, arith, Option, Some, None, length-set, length-append, get_or-set_other, get_or-set_same, eq-eqb, ne_eqb}
+use Rattle.std.proofs.Common.{Bool, ◌≡◌, ◌≢◌, ℕ, zero, suc, ◌+◌, ◌*◌, ◌%◌, ◌^◌, ◌<◌, ◌≤◌, eqb, List, [], ◌∷◌, ◌++◌, length, get_or, set, sym, refl, ap, ◌∙◌, subst, ⊎_elim, arith, Option, Some, None, length-set, length-append, get_or-set_other, get_or-set_same, eq-eqb, ne_eqb}
 use mathlib.Core.Logic.{dite}
 use mathlib.Core.Option.{none, some, some-ne-none, some-injective}
 use mathlib.Core.Option as maybe
@@ -8,7 +8,7 @@ use native.Mathlib.Decide.{ℕ_discrete}
 use lib.ListN.{get_elem?, length-map}
 use prog.Atomic.{either}
 use Rattle.atomic_table.specs.Table.{State, Me, step, keeps, takes, gives, stepped, carried_after, Allows, opening}
-use Rattle.atomic_table.proofs.Lists.{at_set, set_here, set_else, set_again}
+use Rattle.atomic_table.proofs.Lists.{at_set, at_map, set_here, set_else, set_again}
 use Rattle.svsm_steps.specs.declared.entry.Entry.{Entry}
 use Rattle.svsm_steps.specs.Place.{place_of}
 use Rattle.svsm_steps.specs.declared.place_state.Pending.{Pending}
@@ -22,11 +22,13 @@ use Rattle.range_locks.specs.declared.view.View.{View}
 use Rattle.range_locks.specs.declared.view.View.TheVariants.{Spent, First, Core}
 use Rattle.svsm_steps.specs.Partition.{of_core}
 use Rattle.svsm_steps.specs.Places.{of_place}
+use Rattle.range_locks.specs.Lines.{lock_word, slot_of, spread}
 use Rattle.range_locks.specs.Rule.{IsAtHome, Holds, AreJoined, Knows, IsLock, IsLocked}
 use Rattle.range_locks.specs.Passes.{IsFresh}
 use Rattle.range_locks.specs.Plays.{ticketed, Took, Drew, Freed}
 use Rattle.range_locks.proofs.Filters.{core_in, core_out, place_in, place_out, bounded}
 use Rattle.range_locks.proofs.History.{longer, above}
+use Rattle.range_locks.proofs.Spread.{length_spread, spread_at, spread_between}
 
 abbrev pick : {P : Type 0} → Dec P → ℕ → ℕ → ℕ
 pick (yes _) a b = a
@@ -97,13 +99,13 @@ module _ {P : Type 0} (m : Ghosts P) (given : List P) where
   joined_stay ws ws' h h' made owner holder holder' j same (r ∷ rs) k = ((k.0.0, k.0.1, k.0.2 ∙ same r.core k.0.1), joined_stay ws ws' h h' made owner holder holder' j same rs k.1)
 
   hand_stays : (ws ws' : List ℕ) (h h' : List Entry) (made : ℕ) (owner holder holder' : ℕ → ℕ) (j : ℕ)
-      → ((p : ℕ) → p < length given → get_or ws (p + 1) 0 ≡ 1 → holder p ≡ j → (get_or ws' (p + 1) 0 ≡ 1) × (holder' p ≡ j) × (of_place p h ≡ of_place p h'))
+      → ((p : ℕ) → p < length given → get_or ws (lock_word p) 0 ≡ 1 → holder p ≡ j → (get_or ws' (lock_word p) 0 ≡ 1) × (holder' p ≡ j) × (of_place p h ≡ of_place p h'))
       → (a : Hand P) → Holds m given ws h made owner holder j a → Holds m given ws' h' made owner holder' j a
   hand_stays ws ws' h h' made owner holder holder' j same Free k = tt
   hand_stays ws ws' h h' made owner holder holder' j same (Held p x held) k = let s = same p k.0 k.1 k.2 in (k.0, s.0, s.1, k.3, k.4 ∙ s.2)
 
   stays : (ws ws' : List ℕ) (h h' : List Entry) (made : ℕ) (owner holder holder' : ℕ → ℕ) (j : ℕ) → ((c : ℕ) → owner c ≡ j → of_core c h ≡ of_core c h')
-      → ((p : ℕ) → p < length given → get_or ws (p + 1) 0 ≡ 1 → holder p ≡ j → (get_or ws' (p + 1) 0 ≡ 1) × (holder' p ≡ j) × (of_place p h ≡ of_place p h'))
+      → ((p : ℕ) → p < length given → get_or ws (lock_word p) 0 ≡ 1 → holder p ≡ j → (get_or ws' (lock_word p) 0 ≡ 1) × (holder' p ≡ j) × (of_place p h ≡ of_place p h'))
       → (v : V) → K ws h made owner holder j v → K ws' h' made owner holder' j v
   stays ws ws' h h' made owner holder holder' j cores places Spent k = tt
   stays ws ws' h h' made owner holder holder' j cores places (First n joined) k =
@@ -117,8 +119,8 @@ module _ {P : Type 0} (m : Ghosts P) (given : List P) where
       (λ (t : (j ≢ me) × (get_elem? vs j ≡ some v)). others j v t.0 t.1) (at_set vs me j w v e)
 
   -- what is known of a lock stays so, where its word, its slot, its log and its holder do
-  pub lock_stays : (ws ws' : List ℕ) (hs hs' : Homes) (vs vs' : List V) (h h' : List Entry) (holder holder' : ℕ → ℕ) (q : ℕ) → get_or ws' (q + 1) 0 ≡ get_or ws (q + 1) 0
-      → get_elem? hs' q ≡ get_elem? hs q → of_place q h' ≡ of_place q h → holder' q ≡ holder q
+  pub lock_stays : (ws ws' : List ℕ) (hs hs' : Homes) (vs vs' : List V) (h h' : List Entry) (holder holder' : ℕ → ℕ) (q : ℕ) → get_or ws' (lock_word q) 0 ≡ get_or ws (lock_word q) 0
+      → get_elem? hs' (slot_of q) ≡ get_elem? hs (slot_of q) → of_place q h' ≡ of_place q h → holder' q ≡ holder q
       → ((c : ℕ) (own : List Entry) (x : P) (held : List Entry) → get_elem? vs (holder q) ≡ some (Core c own (Held q x held)) → get_elem? vs' (holder q) ≡ some (Core c own (Held q x held)))
       → Lock ws hs vs h holder q → Lock ws' hs' vs' h' holder' q
   lock_stays ws ws' hs hs' vs vs' h h' holder holder' q word home place who view ok = record {
@@ -146,6 +148,7 @@ module _ {P : Type 0} (m : Ghosts P) (given : List P) where
     few = r.few;
     short = r.short;
     unmade = r.unmade;
+    between = r.between;
     each_lock = r.each_lock;
     each_seat = r.each_seat;
   }
@@ -156,17 +159,17 @@ module _ {P : Type 0} (m : Ghosts P) (given : List P) where
       set_get_or (x ∷ xs) (suc i) = ap (λ (l : List ℕ). x ∷ l) (set_get_or xs i)
 
   -- take: where the lock was free, the seat takes the place
-  took_one : (s : St) (r : Rule s) (id p c : ℕ) (own : List Entry) (v : V) (cs : List (ℕ × Option P)) (x : P) → get_elem? s.views id ≡ some v → v ≡ Core c own Free → p < length given → get_or s.words (p + 1) 0 ≡ 0
-      → Home p x → m.log x ≡ of_place p r.history → Rule (stepped s (p + 1) 1 id cs (Core c own (Held p x (m.log x))) (takes p (Some x)))
+  took_one : (s : St) (r : Rule s) (id p c : ℕ) (own : List Entry) (v : V) (cs : List (ℕ × Option P)) (x : P) → get_elem? s.views id ≡ some v → v ≡ Core c own Free → p < length given → get_or s.words (lock_word p) 0 ≡ 0
+      → Home p x → m.log x ≡ of_place p r.history → Rule (stepped s (lock_word p) 1 id cs (Core c own (Held p x (m.log x))) (takes (slot_of p) (Some x)))
   took_one s r id p c own v cs x at is inside free home logged =
       let w : V = Core c own (Held p x (m.log x)) in
-      let ws : List ℕ = set s.words (p + 1) 1 in
-      let hs : Homes = set s.homes p none in
+      let ws : List ℕ = set s.words (lock_word p) 1 in
+      let hs : Homes = set s.homes (slot_of p) none in
       let vs : List V = set s.views id w in
       let holder : ℕ → ℕ = put r.holder p id in
       let wide = r.wide in
       let deep = r.deep in
-      let now : get_or ws (p + 1) 0 ≡ 1 = get_or-set_same s.words (p + 1) 1 0 (omega arith) in
+      let now : get_or ws (lock_word p) 0 ≡ 1 = get_or-set_same s.words (lock_word p) 1 0 (omega arith) in
       let mine = knows s r id v (Core c own Free) at is in record {
         regions = r.regions;
         history = r.history;
@@ -174,80 +177,82 @@ module _ {P : Type 0} (m : Ghosts P) (given : List P) where
         owner = r.owner;
         holder = holder;
         given_is = r.given_is;
-        wide = length-set s.words (p + 1) 1 ∙ wide;
-        deep = length-set s.homes p none ∙ deep;
-        ticket_is = get_or-set_other s.words (p + 1) 0 1 0 (λ e. omega arith) ∙ r.ticket_is;
+        wide = length-set s.words (lock_word p) 1 ∙ wide;
+        deep = length-set s.homes (slot_of p) none ∙ deep;
+        ticket_is = get_or-set_other s.words (lock_word p) 0 1 0 (λ e. omega arith) ∙ r.ticket_is;
         in_order = r.in_order;
         few = r.few;
         short = r.short;
         unmade = r.unmade;
+        between = λ i low apart. set_else s.homes (slot_of p) i none (apart p) ∙ r.between i low apart;
         each_lock = λ q l. dite (ℕ_discrete q p)
             (λ e. subst (λ (z : ℕ). Lock ws hs vs r.history holder z) (sym e) record {
               free = λ z. absurd (omega arith);
-              taken = λ _. (now, set_here s.homes p none (omega arith), (c, own, x, m.log x, ap (get_elem? vs) (put_here r.holder p id) ∙ set_here s.views id w (in_range s.views id v at)));
+              taken = λ _. (now, set_here s.homes (slot_of p) none (omega arith), (c, own, x, m.log x, ap (get_elem? vs) (put_here r.holder p id) ∙ set_here s.views id w (in_range s.views id v at)));
             })
-            (λ ne. lock_stays s.words ws s.homes hs s.views vs r.history r.history r.holder holder q (get_or-set_other s.words (p + 1) (q + 1) 1 0 (λ e. ne (omega arith))) (set_else s.homes p q none ne) refl
+            (λ ne. lock_stays s.words ws s.homes hs s.views vs r.history r.history r.holder holder q (get_or-set_other s.words (lock_word p) (lock_word q) 1 0 (λ e. ne (omega arith))) (set_else s.homes (slot_of p) (slot_of q) none (λ e. ne (omega arith))) refl
             (put_else r.holder p id q ne)
             (λ c' own' x' held' there. set_else s.views id (r.holder q) w
             (λ same. let e : some v ≡ some (Core c' own' (Held q x' held')) = sym at ∙ (ap (get_elem? s.views) (sym same) ∙ there) in let e' = some-injective v (Core c' own' (Held q x' held')) e in absurd (cc)) ∙ there)
             (r.each_lock q l));
         each_seat = seats_stay (K ws r.history r.count r.owner holder) s.views id w (mine.0, mine.1, mine.2, mine.3, (inside, now, put_here r.holder p id, home, logged))
             (λ j u other there. stays s.words ws r.history r.history r.count r.owner r.holder holder j (λ _ _. refl)
-            (λ q l one held. let ne : q ≢ p = λ e. let z : get_or s.words (p + 1) 0 ≡ 1 = ap (λ (k : ℕ). get_or s.words (k + 1) 0) (sym e) ∙ one in omega arith in
-            (get_or-set_other s.words (p + 1) (q + 1) 1 0 (λ e. ne (omega arith)) ∙ one, put_else r.holder p id q ne ∙ held, refl))
+            (λ q l one held. let ne : q ≢ p = λ e. let z : get_or s.words (lock_word p) 0 ≡ 1 = ap (λ (k : ℕ). get_or s.words (lock_word k) 0) (sym e) ∙ one in omega arith in
+            (get_or-set_other s.words (lock_word p) (lock_word q) 1 0 (λ e. ne (omega arith)) ∙ one, put_else r.holder p id q ne ∙ held, refl))
             u (r.each_seat j u there));
       }
 
-  pub take_allows : (slots id : ℕ) (me : M) (p c : ℕ) (own : List Entry) → p + 1 < slots + 1 → slots ≡ length given → me.0 ≡ Core c own Free
-      → Allows Rule slots id me (p + 1) (λ n. either (eqb n 0) 1 n) (Took m (step slots (p + 1) 0 1 none) me)
-  take_allows slots id me p c own inside wide is s r deep at fits = let n : ℕ = get_or s.words (p + 1) 0 in dite (ℕ_discrete n 0)
+  pub take_allows : (slots id : ℕ) (me : M) (p c : ℕ) (own : List Entry) → p < length given → slots ≡ slot_of (length given) → me.0 ≡ Core c own Free
+      → Allows Rule slots id me (lock_word p) (λ n. either (eqb n 0) 1 n) (Took m (step slots (lock_word p) 0 1 none) me)
+  take_allows slots id me p c own inside wide is s r deep at fits = let n : ℕ = get_or s.words (lock_word p) 0 in dite (ℕ_discrete n 0)
       (λ hit. let h = (r.each_lock p (omega arith)).free hit in let w : V = Core c own (Held p h.0 (m.log h.0)) in (
         w,
-        takes p (Some h.0),
+        takes (slot_of p) (Some h.0),
         h.1,
-        subst (λ (b : Bool). Rule (stepped s (p + 1) (either b 1 n) id me.1 w (takes p (Some h.0)))) (sym (eq-eqb n 0 hit)) (took_one s r id p c own me.0 me.1 h.0 at is (omega arith) hit h.2 h.3),
-        λ c' own' is'. ((λ _ p' e. let same : p ≡ p' = omega arith in (h.0, cc, h.2.number_is ∙ same, h.2.regions_is ∙ sym wide, h.2.at_rest)), λ not. absurd (not hit)),
+        subst (λ (b : Bool). Rule (stepped s (lock_word p) (either b 1 n) id me.1 w (takes (slot_of p) (Some h.0)))) (sym (eq-eqb n 0 hit)) (took_one s r id p c own me.0 me.1 h.0 at is (omega arith) hit h.2 h.3),
+        λ c' own' is'. ((λ _ p' e. let same : p ≡ p' = omega arith in (h.0, cc, h.2.number_is ∙ same, ap slot_of h.2.regions_is ∙ sym wide, h.2.at_rest)), λ not. absurd (not hit)),
       ))
       (λ miss. (
         me.0,
         keeps,
         tt,
-        subst (λ (b : Bool). Rule (stepped s (p + 1) (either b 1 n) id me.1 me.0 keeps)) (sym (ne_eqb n 0 miss)) (unmoved s r (p + 1) id me.0 me.1 at),
+        subst (λ (b : Bool). Rule (stepped s (lock_word p) (either b 1 n) id me.1 me.0 keeps)) (sym (ne_eqb n 0 miss)) (unmoved s r (lock_word p) id me.0 me.1 at),
         λ c' own' is'. ((λ hit. absurd (miss hit)), λ _. refl),
       ))
 
   -- free: the seat puts the place back
   freed_one : (s : St) (r : Rule s) (id p c : ℕ) (own held : List Entry) (v : V) (x y : P) → get_elem? s.views id ≡ some v → v ≡ Core c own (Held p x held)
-      → m.number y ≡ m.number x → m.regions y ≡ m.regions x → m.apics y ≡ m.apics x → m.opening y ≡ m.opening x → m.numbers y ≡ m.numbers x → m.pending y ≡ None → m.log y ≡ held → Rule (stepped s (p + 1) 0 id ((p, Some y) ∷ []) (Core c own Free) gives)
+      → m.number y ≡ m.number x → m.regions y ≡ m.regions x → m.apics y ≡ m.apics x → m.opening y ≡ m.opening x → m.numbers y ≡ m.numbers x → m.pending y ≡ None → m.log y ≡ held → Rule (stepped s (lock_word p) 0 id ((slot_of p, Some y) ∷ []) (Core c own Free) gives)
   freed_one s r id p c own held v x y at is same_number same_regions same_apics same_opening same_numbers rests logged =
       let w : V = Core c own Free in
-      let ws : List ℕ = set s.words (p + 1) 0 in
-      let hs : Homes = set s.homes p (some (Some y)) in
+      let ws : List ℕ = set s.words (lock_word p) 0 in
+      let hs : Homes = set s.homes (slot_of p) (some (Some y)) in
       let vs : List V = set s.views id w in
       let wide = r.wide in
       let deep = r.deep in
       let mine = knows s r id v (Core c own (Held p x held)) at is in
       let hand = mine.4 in
       let inside : p < length given = hand.0 in
-      let now : get_or ws (p + 1) 0 ≡ 0 = get_or-set_same s.words (p + 1) 0 0 (omega arith) in record {
+      let now : get_or ws (lock_word p) 0 ≡ 0 = get_or-set_same s.words (lock_word p) 0 0 (omega arith) in record {
         regions = r.regions;
         history = r.history;
         count = r.count;
         owner = r.owner;
         holder = r.holder;
         given_is = r.given_is;
-        wide = length-set s.words (p + 1) 0 ∙ wide;
-        deep = length-set s.homes p (some (Some y)) ∙ deep;
-        ticket_is = get_or-set_other s.words (p + 1) 0 0 0 (λ e. omega arith) ∙ r.ticket_is;
+        wide = length-set s.words (lock_word p) 0 ∙ wide;
+        deep = length-set s.homes (slot_of p) (some (Some y)) ∙ deep;
+        ticket_is = get_or-set_other s.words (lock_word p) 0 0 0 (λ e. omega arith) ∙ r.ticket_is;
         in_order = r.in_order;
         few = r.few;
         short = r.short;
         unmade = r.unmade;
+        between = λ i low apart. set_else s.homes (slot_of p) i (some (Some y)) (apart p) ∙ r.between i low apart;
         each_lock = λ q l. dite (ℕ_discrete q p)
             (λ e. subst (λ (z : ℕ). Lock ws hs vs r.history r.holder z) (sym e) record {
               free = λ _. (
                 y,
-                set_here s.homes p (some (Some y)) (omega arith),
+                set_here s.homes (slot_of p) (some (Some y)) (omega arith),
                 record {
                   number_is = same_number ∙ hand.3.number_is;
                   regions_is = ap (λ (k : ℕ). k + 2) same_regions ∙ hand.3.regions_is;
@@ -260,25 +265,25 @@ module _ {P : Type 0} (m : Ghosts P) (given : List P) where
               );
               taken = λ nz. absurd (nz now);
             })
-            (λ ne. lock_stays s.words ws s.homes hs s.views vs r.history r.history r.holder r.holder q (get_or-set_other s.words (p + 1) (q + 1) 0 0 (λ e. ne (omega arith))) (set_else s.homes p q (some (Some y)) ne) refl refl
+            (λ ne. lock_stays s.words ws s.homes hs s.views vs r.history r.history r.holder r.holder q (get_or-set_other s.words (lock_word p) (lock_word q) 0 0 (λ e. ne (omega arith))) (set_else s.homes (slot_of p) (slot_of q) (some (Some y)) (λ e. ne (omega arith))) refl refl
             (λ c' own' x' held' there. set_else s.views id (r.holder q) w
             (λ same. let e : some v ≡ some (Core c' own' (Held q x' held')) = sym at ∙ (ap (get_elem? s.views) (sym same) ∙ there) in let e' = some-injective v (Core c' own' (Held q x' held')) e in absurd (ne (cc))) ∙ there)
             (r.each_lock q l));
         each_seat = seats_stay (K ws r.history r.count r.owner r.holder) s.views id w (mine.0, mine.1, mine.2, mine.3, tt)
             (λ j u other there. stays s.words ws r.history r.history r.count r.owner r.holder r.holder j (λ _ _. refl)
             (λ q l one mine'. let ne : q ≢ p = λ e. other (sym mine' ∙ (ap r.holder e ∙ hand.2)) in
-            (get_or-set_other s.words (p + 1) (q + 1) 0 0 (λ e. ne (omega arith)) ∙ one, mine', refl))
+            (get_or-set_other s.words (lock_word p) (lock_word q) 0 0 (λ e. ne (omega arith)) ∙ one, mine', refl))
             u (r.each_seat j u there));
       }
 
-  pub free_allows : (slots id : ℕ) (me : M) (p c : ℕ) (own held : List Entry) (x y : P) → me.0 ≡ Core c own (Held p x held) → me.1 ≡ (p, Some y) ∷ []
+  pub free_allows : (slots id : ℕ) (me : M) (p c : ℕ) (own held : List Entry) (x y : P) → me.0 ≡ Core c own (Held p x held) → me.1 ≡ (slot_of p, Some y) ∷ []
       → m.number y ≡ m.number x → m.regions y ≡ m.regions x → m.apics y ≡ m.apics x → m.opening y ≡ m.opening x → m.numbers y ≡ m.numbers x → m.pending y ≡ None → m.log y ≡ held
-      → Allows Rule slots id me (p + 1) (λ _. 0) (λ _. Freed (step slots (p + 1) 0 0 none) me 0)
+      → Allows Rule slots id me (lock_word p) (λ _. 0) (λ _. Freed (step slots (lock_word p) 0 0 none) me 0)
   free_allows slots id me p c own held x y is has same_number same_regions same_apics same_opening same_numbers rests logged s r deep at fits = (
     Core c own Free,
     gives,
     tt,
-    subst (λ (cs : List (ℕ × Option P)). Rule (stepped s (p + 1) 0 id cs (Core c own Free) gives)) (sym has) (freed_one s r id p c own held me.0 x y at is same_number same_regions same_apics same_opening same_numbers rests logged),
+    subst (λ (cs : List (ℕ × Option P)). Rule (stepped s (lock_word p) 0 id cs (Core c own Free) gives)) (sym has) (freed_one s r id p c own held me.0 x y at is same_number same_regions same_apics same_opening same_numbers rests logged),
     λ c' p' own' held' x' is'. let rest_is : carried_after me.1 gives ≡ [] = ap (λ (cs : List (ℕ × Option P)). carried_after cs gives) has in cc,
   )
 
@@ -297,7 +302,7 @@ module _ {P : Type 0} (m : Ghosts P) (given : List P) where
       let mine = knows s r id v (Core c own (Held p x held)) at is in
       let hand = mine.4 in
       let inside : p < length given = hand.0 in
-      let word : (q : ℕ) → get_or ws (q + 1) 0 ≡ get_or s.words (q + 1) 0 = λ q. get_or-set_other s.words 0 (q + 1) n 0 (λ e. omega arith) in record {
+      let word : (q : ℕ) → get_or ws (lock_word q) 0 ≡ get_or s.words (lock_word q) 0 = λ q. get_or-set_other s.words 0 (lock_word q) n 0 (λ e. omega arith) in record {
         regions = r.regions;
         history = h;
         count = r.count;
@@ -314,6 +319,7 @@ module _ {P : Type 0} (m : Ghosts P) (given : List P) where
             let o : length (of_core d r.history) ≡ length (of_core c r.history) = ap (λ (z : ℕ). length (of_core z r.history)) (sym same ∙ core) in omega arith)
             (λ ne. let l = ap length (core_out d r.history e ne) in let b = r.short d in omega arith);
         unmade = λ d le. let below : c < r.count = mine.1 in core_out d r.history e (λ same. omega arith) ∙ r.unmade d le;
+        between = r.between;
         each_lock = λ q l. dite (ℕ_discrete q p)
             (λ same. subst (λ (z : ℕ). Lock ws s.homes vs h r.holder z) (sym same) record {
               free = λ z. let one = hand.1 in let wp = word p in absurd (omega arith);
@@ -338,10 +344,10 @@ module _ {P : Type 0} (m : Ghosts P) (given : List P) where
             u (r.each_seat j u there));
       }
 
-  pub draw_allows : (slots id : ℕ) (me : M) (p c : ℕ) (own held : List Entry) (x y : P) (q : Pending) → me.0 ≡ Core c own (Held p x held) → me.1 ≡ (p, Some y) ∷ [] → m.pending y ≡ Some q → q.core ≡ c
-      → slots ≡ length given → (k : ℕ) → k + 2 ≡ slots → place_of k q.step ≡ p → IsWellFormed k q.step → length own < 2 ^ 32
+  pub draw_allows : (slots id : ℕ) (me : M) (p c : ℕ) (own held : List Entry) (x y : P) (q : Pending) → me.0 ≡ Core c own (Held p x held) → me.1 ≡ (slot_of p, Some y) ∷ [] → m.pending y ≡ Some q → q.core ≡ c
+      → (k : ℕ) → k + 2 ≡ length given → place_of k q.step ≡ p → IsWellFormed k q.step → length own < 2 ^ 32
       → Allows Rule slots id me 0 (λ n. (n + 1) % 2 ^ 64) (Drew m (step slots 0 1 0 none) me)
-  draw_allows slots id me p c own held x y q is has pends core wide k sized placed formed short s r deep at fits =
+  draw_allows slots id me p c own held x y q is has pends core k sized placed formed short s r deep at fits =
       let n : ℕ = get_or s.words 0 0 in
       let e : Entry = ticketed n p q in
       let w : V = Core c (own ++ e ∷ []) (Held p x (held ++ e ∷ [])) in
@@ -366,19 +372,14 @@ module _ {P : Type 0} (m : Ghosts P) (given : List P) where
         ),
       )
 
-  home_of : (xs : List P) (p : ℕ) (x : P) → get_elem? (map some (map Some xs)) p ≡ some (some (Some x)) → get_elem? xs p ≡ some x
-  home_of [] p x e = absurd (some-ne-none _ (sym e))
-  home_of (y ∷ ys) zero x e = let a = some-injective (some (Some y)) (some (Some x)) e in let b = some-injective (Some y) (Some x) a in let c : y ≡ x = cc in ap some c
-  home_of (y ∷ ys) (suc p) x e = home_of ys p x e
-
-  home_at : (xs : List P) (p : ℕ) → p < length xs → (x : P) × (get_elem? xs p ≡ some x) × (get_elem? (map some (map Some xs)) p ≡ some (some (Some x)))
+  home_at : (xs : List P) (p : ℕ) → p < length xs → (x : P) × (get_elem? xs p ≡ some x)
   home_at [] p low = absurd (omega arith)
-  home_at (y ∷ ys) zero low = (y, refl, refl)
+  home_at (y ∷ ys) zero low = (y, refl)
   home_at (y ∷ ys) (suc p) low = home_at ys p (omega arith)
 
   -- the table at the start
-  pub starts : (k : ℕ) (ws : List ℕ) → length given ≡ k + 2 → length ws ≡ length given + 1 → ((i : ℕ) → get_or ws i 0 ≡ 0)
-      → ((p : ℕ) (x : P) → get_elem? given p ≡ some x → IsFresh m k p x) → Rule (opening ws (map Some given) (First 0 []))
+  pub starts : (k : ℕ) (ws : List ℕ) → length given ≡ k + 2 → length ws ≡ lock_word (length given) → ((i : ℕ) → get_or ws i 0 ≡ 0)
+      → ((p : ℕ) (x : P) → get_elem? given p ≡ some x → IsFresh m k p x) → Rule (opening ws (spread given) (First 0 []))
   starts k ws long wide zeros each = record {
     regions = k;
     history = [];
@@ -387,16 +388,17 @@ module _ {P : Type 0} (m : Ghosts P) (given : List P) where
     holder = λ _. 0;
     given_is = sym long;
     wide = wide;
-    deep = length-map (map Some given) (λ (x : Option P). some x) ∙ length-map given (λ (x : P). Some x);
+    deep = length-map (spread given) (λ (x : Option P). some x) ∙ length_spread given;
     ticket_is = zeros 0;
     in_order = record { tickets = tt; at_places = tt; formed = tt; below = tt };
     few = omega arith;
     short = λ c. omega arith;
     unmade = λ c le. refl;
+    between = spread_between given;
     each_lock = λ p low. let h = home_at given p low in let e = each p h.0 h.1 in record {
       free = λ _. (
         h.0,
-        h.2,
+        at_map some (spread given) (slot_of p) (Some h.0) (spread_at given p h.0 h.1),
         record {
           number_is = e.number_is;
           regions_is = ap (λ (n : ℕ). n + 2) e.regions_is ∙ sym long;
@@ -407,7 +409,7 @@ module _ {P : Type 0} (m : Ghosts P) (given : List P) where
         },
         e.empty_log,
       );
-      taken = λ nz. absurd (nz (zeros (p + 1)));
+      taken = λ nz. absurd (nz (zeros (lock_word p)));
     };
     each_seat = λ j v e. first_of_one j v e;
   }

@@ -1,5 +1,5 @@
--- The rule of the table. Word 0 is the ticket word, word p + 1 the lock of place p, and slot p has place p. There is one history:
--- the log of a place and the entries of a pass are what it has of them. This project's own.
+-- The rule of the table. Word 0 is the ticket word, and each place has its lock and its slot. There is one history: the log of a
+-- place and the entries of a pass are what it has of them. This project's own.
 use Rattle.std.specs.Prelude.{◌≡◌, ◌≢◌, ℕ, ◌+◌, ◌^◌, ◌<◌, ◌≤◌, List, [], ◌∷◌, length, slice_index, Option, Some, None, ⊤}
 use mathlib.Core.Option.{some}
 use mathlib.Core.Option as maybe
@@ -12,6 +12,7 @@ use Rattle.svsm_steps.specs.Histories.{HaveTicketsFrom, HaveTheirPlaces}
 use Rattle.svsm_steps.specs.Lawful.{AreBelow}
 use Rattle.svsm_steps.specs.Partition.{of_core}
 use Rattle.svsm_steps.specs.Places.{of_place}
+use Rattle.range_locks.specs.Lines.{lock_word, slot_of}
 use Rattle.range_locks.specs.declared.view.Joined.{Joined}
 use Rattle.range_locks.specs.declared.view.Hand.{Hand}
 use Rattle.range_locks.specs.declared.view.Hand.TheVariants.{Free, Held}
@@ -41,7 +42,7 @@ module _ {P : Type 0} (members : Ghosts P) where
     Holds Free = ⊤
     Holds (Held number place log) =
         (number < length given)
-        × (slice_index words (number + 1) ≡ 1)
+        × (slice_index words (lock_word number) ≡ 1)
         × (holder number ≡ seat)
         × IsAtHome given number place
         × (log ≡ of_place number history)
@@ -65,20 +66,20 @@ module _ {P : Type 0} (members : Ghosts P) where
       (history : List Entry) (holder : ℕ → ℕ) (number : ℕ)
       : Type 0 where
     pub free :
-        slice_index words (number + 1) ≡ 0
+        slice_index words (lock_word number) ≡ 0
         → (place : P)
-        × (get_elem? homes number ≡ some (some (Some place)))
+        × (get_elem? homes (slot_of number) ≡ some (some (Some place)))
         × IsAtHome given number place
         × (members.log place ≡ of_place number history)
     pub taken :
-        slice_index words (number + 1) ≢ 0
-        → (slice_index words (number + 1) ≡ 1)
-        × (get_elem? homes number ≡ some maybe.none)
+        slice_index words (lock_word number) ≢ 0
+        → (slice_index words (lock_word number) ≡ 1)
+        × (get_elem? homes (slot_of number) ≡ some maybe.none)
         × ((core : ℕ) × (entries : List Entry) × (place : P) × (log : List Entry)
         × (get_elem? views (holder number) ≡ some (Core core entries (Held number place log))))
 
   -- The whole rule. The ticket word is the length of the history. Owner gives the seat of each core, and holder the seat that
-  -- holds each place
+  -- holds each place. A slot that is no place's is empty
   pub record IsLocked (given : List P) (s : State (Option P) (View P)) : Type 0 where
     pub regions : ℕ
     pub history : List Entry
@@ -86,13 +87,16 @@ module _ {P : Type 0} (members : Ghosts P) where
     pub owner : ℕ → ℕ
     pub holder : ℕ → ℕ
     pub given_is : regions + 2 ≡ length given
-    pub wide : length s.words ≡ length given + 1
-    pub deep : length s.homes ≡ length given
+    pub wide : length s.words ≡ lock_word (length given)
+    pub deep : length s.homes ≡ slot_of (length given)
     pub ticket_is : slice_index s.words 0 ≡ length history
     pub in_order : IsHistory regions history
     pub few : count ≤ 1024
     pub short : (core : ℕ) → length (of_core core history) ≤ 2 ^ 32
     pub unmade : (core : ℕ) → count ≤ core → of_core core history ≡ []
+    pub between :
+        (slot : ℕ) → slot < slot_of (length given) → ((number : ℕ) → slot ≢ slot_of number)
+        → get_elem? s.homes slot ≡ some (some None)
     pub each_lock : (number : ℕ) → number < length given → IsLock given s.words s.homes s.views history holder number
     pub each_seat :
         (seat : ℕ) (view : View P) → get_elem? s.views seat ≡ some view

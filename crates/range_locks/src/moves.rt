@@ -4,11 +4,13 @@ ghost use Rattle.svsm_steps.specs.declared.entry.Entry.{Entry};
 ghost use Rattle.svsm_steps.specs.Place.{place_of};
 ghost use Rattle.svsm_steps.specs.Formed.{IsWellFormed, IsAnswer};
 ghost use Rattle.svsm_steps.specs.Lawful.{IsAbove};
+ghost use Rattle.range_locks.specs.Lines.{lock_word, slot_of};
 ghost use Rattle.range_locks.specs.Plays.{ticketed};
 ghost use Rattle.range_locks.specs.Views.{is_core, core_in, entries_in};
 ghost use Rattle.range_locks.specs.declared.view.Hand.TheVariants.{Free, Held};
 ghost use Rattle.range_locks.specs.declared.view.View.TheVariants.{Core};
 
+use crate::lines::{lock_word, slot_of};
 use crate::plays::{Draw, GiveBack, Take};
 use crate::rule::{LockSeat, SharedTable};
 use std::alloc::Global;
@@ -18,45 +20,42 @@ use std::time::Duration;
 use svsm_steps::{Answer, Entry, Gate, Pending, PlaceState, Step, place_of};
 use svsm_types::NoMemory;
 
-// How often a core tries a lock at once, before it sleeps between two tries.
-const TRIES: u64 = 100;
-
-// How long it sleeps.
+// How long a core sleeps between two tries of a lock.
 const MICROSECONDS: u64 = 50;
 
-// Waits before the next try of a lock.
-fn wait_a_little<R: Wait>(rt: &R, tries: u64) {
-    if tries < TRIES {
-        thread::yield_now();
-    } else {
+// Waits before the next try of a lock: a core yields once, and then sleeps.
+fn wait_a_little<R: Wait>(rt: &R, yielded: bool) {
+    if yielded {
         thread::Parker::new().park_timeout(rt, Duration::from_micros(MICROSECONDS));
+    } else {
+        thread::yield_now();
     }
 }
 
 // Takes the lock of a place, and tries until it has it. The seat then has the slot of the place.
 fn lock<P: PlaceState, R: Wait>(rt: &R, shared: &SharedTable<P>, seat: &mut LockSeat<P>, place: u64)
     requires table { seat.old.table_id ≡ shared.now.table_id }
-    requires words { shared.now.table_id.words ≡ shared.now.table_id.slots + 1 }
-    requires given { length shared.now.key.value.items ≡ shared.now.table_id.slots }
-    requires place { place < shared.now.table_id.slots }
-    requires few { shared.now.table_id.slots < 1024 }
+    requires words { shared.now.table_id.words ≡ lock_word (length shared.now.key.value.items) }
+    requires slots { shared.now.table_id.slots ≡ slot_of (length shared.now.key.value.items) }
+    requires place { place < length shared.now.key.value.items }
+    requires few { length shared.now.key.value.items < 1024 }
     requires core { is_core seat.old.me.0 ≡ true }
     requires idle { seat.old.me.1 ≡ [] }
     ensures table { (seat.new.table_id ≡ seat.old.table_id) × (seat.new.id ≡ seat.old.id) }
     ensures holds { (x : P)
         × (seat.new.me
-        ≡ (Core (core_in seat.old.me.0) (entries_in seat.old.me.0) (Held place x (P.log x)), (place, Some x) ∷ []))
+        ≡ (Core (core_in seat.old.me.0) (entries_in seat.old.me.0) (Held place x (P.log x)), (slot_of place, Some x) ∷ []))
         × (P.number x ≡ place)
-        × (P.regions x + 2 ≡ shared.now.table_id.slots)
+        × (P.regions x + 2 ≡ length shared.now.key.value.items)
         × (P.pending x ≡ None) }
 {
-    let mut tries: u64 = 0;
+    let mut yielded = false;
     for _ in rt.forever() {
-        if shared.compare_exchange::<Take>(seat, place as usize + 1, 0, 1) == 0 {
+        if shared.compare_exchange::<Take>(seat, lock_word(place), 0, 1) == 0 {
             return;
         }
-        wait_a_little(rt, tries);
-        tries = tries.saturating_add(1);
+        wait_a_little(rt, yielded);
+        yielded = true;
     }
     unreachable!()
 }
@@ -64,12 +63,13 @@ fn lock<P: PlaceState, R: Wait>(rt: &R, shared: &SharedTable<P>, seat: &mut Lock
 // Moves the place out of its slot.
 fn take_out<P: PlaceState>(shared: &SharedTable<P>, seat: &mut LockSeat<P>, place: u64) -> P
     requires table { seat.old.table_id ≡ shared.now.table_id }
-    requires slot { (x : P) × (seat.old.me.1 ≡ (place, Some x) ∷ []) }
+    requires few { place < 1024 }
+    requires slot { (x : P) × (seat.old.me.1 ≡ (slot_of place, Some x) ∷ []) }
     ensures table { (seat.new.table_id ≡ seat.old.table_id) × (seat.new.id ≡ seat.old.id) }
-    ensures slot { seat.old.me.1 ≡ (place, Some result) ∷ [] }
-    ensures empty { seat.new.me ≡ (seat.old.me.0, (place, None) ∷ []) }
+    ensures slot { seat.old.me.1 ≡ (slot_of place, Some result) ∷ [] }
+    ensures empty { seat.new.me ≡ (seat.old.me.0, (slot_of place, None) ∷ []) }
 {
-    let slot = shared.exchange(seat, place as usize, None);
+    let slot = shared.exchange(seat, slot_of(place), None);
     let Some(value) = slot else { unreachable!() };
     value
 }
@@ -77,23 +77,24 @@ fn take_out<P: PlaceState>(shared: &SharedTable<P>, seat: &mut LockSeat<P>, plac
 // Moves the place back into its slot.
 fn put_in<P: PlaceState>(shared: &SharedTable<P>, seat: &mut LockSeat<P>, place: u64, value: P)
     requires table { seat.old.table_id ≡ shared.now.table_id }
-    requires slot { seat.old.me.1 ≡ (place, None) ∷ [] }
+    requires few { place < 1024 }
+    requires slot { seat.old.me.1 ≡ (slot_of place, None) ∷ [] }
     ensures table { (seat.new.table_id ≡ seat.old.table_id) × (seat.new.id ≡ seat.old.id) }
-    ensures full { seat.new.me ≡ (seat.old.me.0, (place, Some value) ∷ []) }
+    ensures full { seat.new.me ≡ (seat.old.me.0, (slot_of place, Some value) ∷ []) }
 {
-    let slot = shared.exchange(seat, place as usize, Some(value));
+    let slot = shared.exchange(seat, slot_of(place), Some(value));
     let None = slot else { unreachable!() };
 }
 
 // Puts the place back and frees its lock.
 fn release<P: PlaceState>(shared: &SharedTable<P>, seat: &mut LockSeat<P>, place: u64, value: P)
     requires table { seat.old.table_id ≡ shared.now.table_id }
-    requires words { shared.now.table_id.words ≡ shared.now.table_id.slots + 1 }
-    requires place { place < shared.now.table_id.slots }
-    requires few { shared.now.table_id.slots < 1024 }
+    requires words { shared.now.table_id.words ≡ lock_word (length shared.now.key.value.items) }
+    requires place { place < length shared.now.key.value.items }
+    requires few { length shared.now.key.value.items < 1024 }
     requires holds { (x : P)
         × (seat.old.me
-        ≡ (Core (core_in seat.old.me.0) (entries_in seat.old.me.0) (Held place x (P.log value)), (place, None) ∷ []))
+        ≡ (Core (core_in seat.old.me.0) (entries_in seat.old.me.0) (Held place x (P.log value)), (slot_of place, None) ∷ []))
         × (P.number value ≡ P.number x)
         × (P.regions value ≡ P.regions x)
         × (P.apics value ≡ P.apics x)
@@ -104,7 +105,7 @@ fn release<P: PlaceState>(shared: &SharedTable<P>, seat: &mut LockSeat<P>, place
     ensures idle { seat.new.me ≡ (Core (core_in seat.old.me.0) (entries_in seat.old.me.0) Free, []) }
 {
     put_in(shared, seat, place, value);
-    shared.store::<GiveBack>(seat, place as usize + 1, 0);
+    shared.store::<GiveBack>(seat, lock_word(place), 0);
 }
 
 // Draws the ticket of the pending step. The place lies in its slot meanwhile, since a seat tells nothing of a value that it
@@ -118,9 +119,8 @@ fn draw<P: PlaceState>(
     pending: Pending,
 ) -> (u64, P)
     requires table { seat.old.table_id ≡ shared.now.table_id }
-    requires words { shared.now.table_id.words ≡ shared.now.table_id.slots + 1 }
-    requires given { length shared.now.key.value.items ≡ shared.now.table_id.slots }
-    requires regions { regions + 2 ≡ shared.now.table_id.slots }
+    requires words { shared.now.table_id.words ≡ lock_word (length shared.now.key.value.items) }
+    requires regions { (regions + 2 ≡ length shared.now.key.value.items) × (regions ≤ 512) }
     requires formed { IsWellFormed regions pending.step }
     requires place { place ≡ place_of regions pending.step }
     requires few { length (entries_in seat.old.me.0) < 2 ^ 32 }
@@ -128,16 +128,16 @@ fn draw<P: PlaceState>(
     requires core { pending.core ≡ core_in seat.old.me.0 }
     requires holds { (x : P) × (log : List Entry)
         × (seat.old.me
-        ≡ (Core (core_in seat.old.me.0) (entries_in seat.old.me.0) (Held place x log), (place, None) ∷ [])) }
+        ≡ (Core (core_in seat.old.me.0) (entries_in seat.old.me.0) (Held place x log), (slot_of place, None) ∷ [])) }
     ensures table { (seat.new.table_id ≡ seat.old.table_id) × (seat.new.id ≡ seat.old.id) }
     ensures same { result.1 ≡ value }
     ensures drew { (x : P) (log : List Entry)
-        → seat.old.me ≡ (Core (core_in seat.old.me.0) (entries_in seat.old.me.0) (Held place x log), (place, None) ∷ [])
+        → seat.old.me ≡ (Core (core_in seat.old.me.0) (entries_in seat.old.me.0) (Held place x log), (slot_of place, None) ∷ [])
         → (seat.new.me
         ≡ (
           Core (core_in seat.old.me.0) (entries_in seat.old.me.0 ++ ticketed result.0 place pending ∷ [])
               (Held place x (log ++ ticketed result.0 place pending ∷ [])),
-          (place, None) ∷ [],
+          (slot_of place, None) ∷ [],
         ))
         × IsAbove result.0 log
         × IsAbove result.0 (entries_in seat.old.me.0)
@@ -163,9 +163,9 @@ pub(crate) fn make<P: PlaceState, R: Wait, G: Gate>(
     step: &Step,
 ) -> Result<(u64, Answer), NoMemory>
     requires table { seat.old.table_id ≡ shared.now.table_id }
-    requires words { shared.now.table_id.words ≡ shared.now.table_id.slots + 1 }
-    requires given { length shared.now.key.value.items ≡ shared.now.table_id.slots }
-    requires regions { (regions + 2 ≡ shared.now.table_id.slots) × (regions ≤ 512) }
+    requires words { shared.now.table_id.words ≡ lock_word (length shared.now.key.value.items) }
+    requires slots { shared.now.table_id.slots ≡ slot_of (length shared.now.key.value.items) }
+    requires regions { (regions + 2 ≡ length shared.now.key.value.items) × (regions ≤ 512) }
     requires split { is_core seat.old.me.0 ≡ true }
     requires idle { seat.old.me.1 ≡ [] }
     requires core { core ≡ core_in seat.old.me.0 }

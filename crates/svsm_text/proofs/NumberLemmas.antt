@@ -1,14 +1,17 @@
 -- The value of hex digits.
-use Rattle.std.proofs.Common.{◌≡◌, ℕ, zero, suc, ◌+◌, ◌*◌, ◌^◌, ◌<◌, ◌≤◌, Bool, true, nat_eq, subst, ◌/◌, ◌%◌, nat_lt, List, [], ◌∷◌, ◌++◌, length, take, get_or, refl, sym, ◌∙◌, ap, arith}
+use Rattle.std.proofs.Common.{◌≡◌, ℕ, zero, suc, ◌+◌, ◌*◌, ◌^◌, ◌<◌, ◌≤◌, Bool, true, nat_eq, subst, ◌-◌, ◌/◌, ◌%◌, nat_lt, List, [], ◌∷◌, ◌++◌, length, take, drop, set, get_or, refl, sym, ◌∙◌, ap, arith}
 use Rattle.std.specs.Prelude.{Some, codes, nat_le, ◌&&◌, false, if◌then◌else◌}
 use Rattle.std.specs.Fmt.{digits, digits_onto, digit_glyph}
 use Rattle.std.proofs.lemmas.Fmt.{digits_is_IsNumeral}
 use Rattle.svsm_text.specs.Numbers.{are_digits, number_in, number}
+use Rattle.std.proofs.Math.ListN.{drop_of_length-le}
 use Rattle.std.proofs.Math.Nat.{pow-le-pow_right, pow-le-pow_left, pow-suc}
 use Rattle.std.specs.Str.Parse.{AllDigits, digits_value}
 use Rattle.std.specs.Char.{digit_value, is_digit}
 use Rattle.std.specs.List.{list_all}
 use Rattle.std.proofs.lemmas.Bool.Decides.{nat_tests}
+use Rattle.std.proofs.lemmas.Grind.{drop-set_at}
+use Rattle.std.proofs.lemmas.List.{drop-set}
 use Rattle.std.proofs.lemmas.List.Folds.{list_all_more}
 use Rattle.std.proofs.lemmas.Int.Digits.{digits_value-lt, digits_value_more}
 
@@ -94,3 +97,37 @@ read_again n small =
     let numeral = digits_is_IsNumeral 16 false (omega arith) (omega arith) n (far n (2 ^ 64) (16 ^ 64) small (pow-le-pow_left {n = 2} {m = 16} (omega arith) 64)) in
     let whole : are_digits (digits 16 false n) ≡ true = both_hold (below_passes 0 (length (digits 16 false n)) numeral.0.0) (both_hold (up_to _ 16 (digits_short n small)) (all_digits (digits 16 false n) numeral.0.1)) in
     number_of (digits 16 false n) n whole numeral.1
+
+none_left : (n : ℕ) → n < 16 → nat_eq (n / 16) 0 ≡ true
+none_left n small = grind (arith, nat_tests)
+
+more_left : (n : ℕ) → 16 ≤ n → nat_eq (n / 16) 0 ≡ false
+more_left n large = grind (arith, nat_tests)
+
+-- at first no digit is written
+pub onto_none : (n at : ℕ) (text : List ℕ) → length text ≤ at → digits_onto 64 16 false n (drop at text) ≡ digits 16 false n
+unfolding digits
+onto_none n at text whole = ap (digits_onto 64 16 false n) (drop_of_length-le text {i = at} whole)
+
+-- with a digit more written in front, a digit less is left to write
+pub written_more : (k fuel n at next : ℕ) (text : List ℕ) → fuel ≡ suc k → next ≡ at → at < length text → 16 ≤ n
+    → digits_onto k 16 false (n / 16) (drop next (set text at (digit_glyph false (n % 16)))) ≡ digits_onto fuel 16 false n (drop (at + 1) text)
+written_more k fuel n at next text more same within large =
+    ap (digits_onto k 16 false (n / 16)) (drop-set_at text at next (digit_glyph false (n % 16)) same within)
+    ∙ sym (ap (λ (j : ℕ). digits_onto j 16 false n (drop (at + 1) text)) more ∙ onto_step k n (drop (at + 1) text) false (more_left n large))
+
+-- the last digit to write
+pub written_last : (k fuel n at : ℕ) (text : List ℕ) → fuel ≡ suc k → at < length text → n < 16
+    → drop at (set text at (digit_glyph false n)) ≡ digits_onto fuel 16 false n (drop (at + 1) text)
+written_last k fuel n at text more within small =
+    drop-set text at (digit_glyph false n) within
+    ∙ ap (λ (d : ℕ). digit_glyph false d ∷ drop (at + 1) text) (omega arith)
+    ∙ sym (ap (λ (j : ℕ). digits_onto j 16 false n (drop (at + 1) text)) more ∙ onto_step k n (drop (at + 1) text) true (none_left n small))
+
+-- where a digit more is left to write, there is room for it
+pub room_more : (places fewer n : ℕ) → fewer ≡ places - 1 → 1 ≤ places → 16 ≤ n → n < 16 ^ places → (1 ≤ fewer) × (n / 16 < 16 ^ fewer)
+room_more zero fewer n one low large small = absurd (omega arith)
+room_more (suc zero) fewer n one low large small = absurd (omega arith)
+room_more (suc (suc j)) fewer n one low large small =
+    let same : suc j ≡ fewer = omega arith in
+    (omega arith, subst (λ (i : ℕ). n / 16 < 16 ^ i) same (lower n (16 ^ suc j) (subst (λ (p : ℕ). n < p) (power (suc j)) small)))

@@ -1,7 +1,8 @@
 //! Numbers of a text.
-ghost use Rattle.std.specs.Prelude.{◌≡◌, ◌≤◌, ◌++◌, Some, None, length, if◌then◌else◌, OnErr, OnOk};
+ghost use Rattle.std.specs.Prelude.{◌≡◌, ◌<◌, ◌≤◌, ◌++◌, Some, None, false, length, drop, if◌then◌else◌, OnErr, OnOk};
 ghost use Rattle.std.specs.List.{list_all};
 ghost use Rattle.std.specs.Char.{is_digit};
+ghost use Rattle.std.specs.Fmt.{digit_glyph, digits};
 ghost use Rattle.std.specs.Str.Parse.{digits_value};
 ghost use Rattle.svsm_text.specs.Numbers.{number_in, number};
 
@@ -32,12 +33,44 @@ pub fn read_hex(bytes: &[u8]) -> Option<u64>
     value_of(digits)
 }
 
+// The lower-case digit.
+fn glyph_of(digit: u64) -> u8
+    requires { digit < 16 }
+    ensures { result ≡ digit_glyph false digit }
+{
+    if digit < 10 {
+        b'0' + digit as u8
+    } else {
+        b'a' + (digit - 10) as u8
+    }
+}
+
+// Writes the lower-case digits at the end of the bytes, and returns where they begin.
+fn write_digits(value: u64, text: &mut [u8; 18]) -> usize
+    ensures low { 2 ≤ result }
+    ensures high { result < 18 }
+    ensures digits { drop result text.new ≡ digits 16 false value }
+{
+    let mut at = 17;
+    let mut rest = value;
+    'digits: while rest >= 16 {
+        text[at] = glyph_of(rest % 16);
+        rest /= 16;
+        at -= 1;
+    }
+    text[at] = glyph_of(rest);
+    at
+}
+
 /// Appends `0x` and the lower-case digits, without leading zeros.
 pub fn put_hex(out: &mut Vec<u8>, value: u64) -> Result<(), NoMemory>
     ensures appended { OnOk result (out.new.items ≡ out.old.items ++ number value) }
     ensures memory { OnErr result (out.new.items ≡ out.old.items) }
 {
-    let text = format!(in *out.allocator(); "0x{value:x}")?;
-    out.extend_from_slice(text.as_str().as_bytes())?;
+    let mut text = [0u8; 18];
+    let at = write_digits(value, &mut text);
+    text[at - 1] = b'x';
+    text[at - 2] = b'0';
+    out.extend_from_slice(&text[at - 2..])?;
     Ok(())
 }

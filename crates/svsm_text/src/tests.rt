@@ -38,6 +38,41 @@ fn numbers_are_printed_without_leading_zeros(rt: HostRuntime) -> Result<(), Fail
 }
 
 #[test]
+fn numbers_are_printed_as_format_prints_them(rt: HostRuntime) -> Result<(), Fail> {
+    let alloc = rt.alloc();
+    let values = [
+        0,
+        1,
+        0xf,
+        0x10,
+        0xff,
+        0xfff,
+        0xffff,
+        0xf_ffff,
+        0xff_ffff,
+        0xfff_ffff,
+        0xffff_ffff,
+        0x1_0000_0000,
+        0xf_ffff_ffff,
+        0xff_ffff_ffff,
+        0xfff_ffff_ffff,
+        0xffff_ffff_ffff,
+        0xf_ffff_ffff_ffff,
+        0xff_ffff_ffff_ffff,
+        0xfff_ffff_ffff_ffff,
+        0x0123_4567_89ab_cdef,
+        0xfedc_ba98_7654_3210,
+        u64::MAX,
+    ];
+    for value in values {
+        let put = printed(alloc, value)?;
+        let formatted = format!(in alloc; "0x{value:x}")?;
+        assert_eq!(rt; put.as_slice(), formatted.as_str().as_bytes());
+    }
+    Ok(())
+}
+
+#[test]
 fn the_last_line_may_lack_its_newline(rt: HostRuntime) -> Result<(), Fail> {
     assert_eq!(rt; next_line(b"ab\n\nc", 0), Some((2, 3)));
     assert_eq!(rt; next_line(b"ab\n\nc", 3), Some((3, 4)));

@@ -15,7 +15,7 @@ use Rattle.place_core.specs.Kinds.{value_of, numbers_of}
 use Rattle.place_core.specs.PlaceView.{PlaceView, new_place}
 use Rattle.place_core.specs.Opened.{IsOpened}
 use Rattle.place_core.specs.Turned.{TurnsView, EachPlace, IsFresh, apics_of, openings_of, AreClosed}
-use Rattle.svsm_waves.specs.Raised.{raised}
+use Rattle.history_core.specs.Raised.{raised}
 use Rattle.svsm_waves.specs.Trace.{IsRecorded}
 use Rattle.place_core.specs.Reopened.{AreReopened, AreAtRest, reopened}
 use Rattle.svsm_waves.specs.InTurn.{IsKept, AreBegun, AreOpened, StandFor, trace_of}

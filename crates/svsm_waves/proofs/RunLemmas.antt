@@ -20,7 +20,7 @@ use Rattle.svsm_calls.specs.Waves.{is_among, enters}
 use Rattle.svsm_calls.specs.Run.{IsCore, script_of, caller_of}
 use Rattle.core_loop.specs.Locked.{raise_made}
 use Rattle.locked_places.specs.Wave.{AreCallers, AreRunsOf, AreOfCallers}
-use Rattle.svsm_waves.specs.Raised.{raise, raised}
+use Rattle.history_core.specs.Raised.{raise, raised}
 use Rattle.svsm_waves.specs.Trace.{Each}
 use Rattle.svsm_waves.specs.Wave.{HasEntered, Gave, AddedBy, AreStarted, Rises, cores_of, put_all, unstarted}
 use Rattle.svsm_waves.specs.Moved.{both_left, both_right, both_true}

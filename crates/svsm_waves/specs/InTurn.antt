@@ -14,7 +14,7 @@ use Rattle.place_core.specs.Numbered.{numbers_along}
 use Rattle.place_core.specs.PlaceView.{PlaceView}
 use Rattle.place_core.specs.Turned.{TurnsView, EachPlace, IsFresh, IsHistory, AreLogs, openings_of}
 use Rattle.svsm_waves.specs.Trace.{IsRecorded}
-use Rattle.svsm_waves.specs.Raised.{raised}
+use Rattle.history_core.specs.Raised.{raised}
 
 -- the places, by their numbers, stand as a state, and the operations of the regions were counted so
 pub record AreOpened (constants : Constants) (state : State) (numbers : ℕ → Numbers) (openings : List Kind) : Type 0 where

@@ -29,7 +29,7 @@ use Rattle.place_core.specs.declared.kind.Kind.{Kind as PlaceKind}
 use Rattle.place_core.specs.Kinds.{value_of, numbers_of}
 use Rattle.place_core.specs.Numbered.{numbers_along}
 use Rattle.place_core.specs.Turned.{TurnsView, IsHistory, AreLogs}
-use Rattle.svsm_waves.specs.Raised.{raised}
+use Rattle.history_core.specs.Raised.{raised}
 use Rattle.svsm_waves.specs.Trace.{IsRecorded}
 use Rattle.svsm_waves.specs.InTurn.{AreOpened, StandAfter, IsKept, trace_of}
 use Rattle.svsm_waves.specs.RaisedLaws.{raised_tickets, raised_places, raised_formed, raised_of_place, raised_replay, raised_ends, raised_follows, raised_numbers}

@@ -9,7 +9,7 @@ use Rattle.svsm_steps.specs.Places.{PlaceValue, place_after, IsReplay, replay, o
 use Rattle.svsm_steps.specs.Histories.{HaveTicketsFrom, HaveTheirPlaces}
 use Rattle.svsm_steps.specs.PlaceFaults.{numbers_in, FollowsAt}
 use Rattle.place_core.specs.Numbered.{numbers_along}
-use Rattle.svsm_waves.specs.Raised.{raise, raised}
+use Rattle.history_core.specs.Raised.{raise, raised}
 
 pub raised_tickets : (n m : ℕ) (entries : List Entry) → HaveTicketsFrom m entries → HaveTicketsFrom (n + m) (raised n entries)
 raised_tickets n m [] h = tt

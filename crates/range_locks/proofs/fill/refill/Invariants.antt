@@ -1,10 +1,11 @@
-use Rattle.std.proofs.Common.{◌≡◌, ℕ, ◌-◌, ◌<◌, ◌≤◌, true, false, get_or, length, Some}
+use Rattle.std.proofs.Common.{◌≡◌, ℕ, ◌-◌, ◌<◌, ◌≤◌, ◌++◌, true, false, drop, get_or, length}
 use Rattle.std.specs.Prelude.{vec_capacity}
 use mathlib.Core.Option.{some}
 use lib.ListN.{get_elem?}
 use Rattle.std.specs.Slots.{slots_items, slots_filled, slots_len}
 use Rattle.svsm_steps.specs.Lawful.{IsLawful}
 use Rattle.svsm_steps.specs.PlaceFaults.{FollowsAt}
+use Rattle.range_locks.specs.Lines.{places_in}
 use Rattle.range_locks.proofs.fill.refill.Given as goal
 
 abbrev pub invariant-loop-i : goal.invariant-loop-i
@@ -14,11 +15,10 @@ invariant-loop-i g l = record {
   inside : l.i ≤ slots_len l.closed.slots;
   items : slots_items l.closed.slots ≡ slots_items l.initial.closed.slots;
   as_many : slots_len l.closed.slots ≡ slots_len l.initial.closed.slots;
-  long : length l.kept.items ≡ l.i;
-  room : slots_len l.closed.slots ≤ vec_capacity l.kept;
+  same : l.kept.items ++ places_in (drop l.i (slots_items l.closed.slots)) ≡ places_in (slots_items l.closed.slots);
+  room : length (places_in (slots_items l.closed.slots)) ≤ vec_capacity l.kept;
   lawful : (p : ℕ) (x : g.row.P.Denot) → get_elem? l.kept.items p ≡ some x → IsLawful (g.P.PlaceState.apics x) (g.P.PlaceState.opening x) (g.P.PlaceState.log x) (g.P.PlaceState.pending x) (g.P.PlaceState.state x);
   due : (p : ℕ) (x : g.row.P.Denot) → get_elem? l.kept.items p ≡ some x → FollowsAt (g.P.PlaceState.apics x) (g.P.PlaceState.numbers x) (g.P.PlaceState.opening x) (g.P.PlaceState.log x);
-  same : (p : ℕ) (x : g.row.P.Denot) → get_elem? l.kept.items p ≡ some x → get_elem? (slots_items l.closed.slots) p ≡ some (Some x);
 }
 
 abbrev pub decreases-loop-i : goal.decreases-loop-i

@@ -1,4 +1,4 @@
--- Entries of a wave, whose tickets begin at 0, behind a history.
+-- Entries whose tickets begin at 0, behind a history.
 use Rattle.std.specs.Prelude.{ℕ, ◌+◌, List, map}
 use Rattle.svsm_steps.specs.declared.entry.Entry.{Entry}
 
