@@ -1,5 +1,5 @@
 -- Places that were closed after a wave, and stand again.
-use Rattle.std.proofs.Common.{get_or, ◌≡◌, ◌<◌, ℕ, zero, suc, ◌+◌, List, [], ◌∷◌, length, refl, sym, ◌∙◌, ap, subst, arith}
+use Rattle.std.proofs.Common.{get_or, ◌≡◌, ◌<◌, ℕ, ◌+◌, List, [], length, refl, sym, ◌∙◌, ap, subst, arith}
 use Rattle.std.proofs.lemmas.List.{get_or-map, length-map}
 use Rattle.std.specs.Prelude.{map, None, slice_index_or}
 use Rattle.std.specs.List.{All}

@@ -15,7 +15,7 @@ use Rattle.svsm_steps.specs.Formed.{IsWord}
 use Rattle.svsm_steps.specs.Made.{made_by}
 use Rattle.svsm_calls.specs.Waves.{is_among, apic_of, enters, numbers_of, AreWaves}
 use Rattle.svsm_calls.specs.Run.{caller_of, IsCore, script_of}
-use Rattle.svsm_waves.specs.Trace.{Each, AreOf, rows_now}
+use Rattle.svsm_waves.specs.Trace.{Each, rows_now}
 
 -- numbers that rise
 abbrev pub Rises : List ℕ → Type 0

@@ -1,4 +1,4 @@
-use Rattle.std.proofs.Common.{◌≡◌, ◌+◌, ◌-◌, ◌^◌, ◌<◌, ℕ, List, length, min, sym, ap, ◌∙◌, subst, arith, All}
+use Rattle.std.proofs.Common.{◌≡◌, ◌+◌, ◌-◌, ◌^◌, ◌<◌, List, length, min, sym, ap, ◌∙◌, subst, arith, All}
 use Rattle.svsm_steps.specs.declared.entry.Entry.{Entry}
 use Rattle.history_core.specs.Merged.{entries_in}
 use Rattle.history_core.specs.Placed.{placed}

@@ -3,13 +3,11 @@ use Rattle.std.specs.Prelude.{◌<◌}
 use Rattle.svsm_types.specs.declared.image.Image.{Image}
 use Rattle.svsm_types.specs.declared.vcpu.Row.{Row}
 use Rattle.svsm_steps.specs.declared.call.Caller.{Caller}
-use Rattle.svsm_steps.specs.declared.entry.Entry.{Entry}
-use Rattle.svsm_calls.specs.Run.{IsRun}
 use Rattle.svsm_calls.specs.Waves.{ready_cores}
 use Rattle.svsm_waves.specs.Trace.{rows_now, IsRecorded}
 use Rattle.svsm_waves.specs.InTurn.{trace_of}
 use Rattle.svsm_waves.specs.Kept.{recorded_behind}
-use Rattle.svsm_waves.specs.Wave.{AddedBy, Gave, Waved, cores_of, left}
+use Rattle.svsm_waves.specs.Wave.{AddedBy, Gave, cores_of, left}
 use Rattle.svsm_waves.proofs.ListLemmas.{no_items, some_items}
 use Rattle.svsm_waves.proofs.WaveLemmas.{waits_next, rises_next, fewer_left, wave_more, waved_none, waved_whole}
 use Rattle.svsm_waves.proofs.waves.run_all.Goals as goal
