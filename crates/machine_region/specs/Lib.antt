@@ -1,5 +1,4 @@
 pub mod Micros
-pub mod Words
 pub mod Views
 pub mod Kinds
 pub mod Room

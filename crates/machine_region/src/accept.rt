@@ -4,9 +4,9 @@ ghost use Rattle.svsm_types.specs.Pages.{page_of, region_of};
 ghost use Rattle.svsm_types.specs.Hardware.{after_write};
 ghost use Rattle.svsm_steps.specs.Plan.{after_all, assign};
 ghost use Rattle.svsm_steps.specs.Image.{accept};
+ghost use Rattle.platform_trait.specs.WordsOf.{has_room};
 ghost use Rattle.machine_region.specs.Micros.{micro_of, AreHere};
 ghost use Rattle.machine_region.specs.Views.{region_view, hw_view};
-ghost use Rattle.machine_region.specs.Words.{has_room};
 
 use crate::micro::Micro;
 use crate::plan::{Row, grant, listed};
@@ -27,6 +27,7 @@ fn accept_row(page: Page, size: Size, vmpl: Vmpl) -> Row
 
 impl RegionTable {
     /// Puts a word, and makes room for it.
+    #[tactic(auto, using(platform_trait::proofs::WordLemmas::with_room_here))]
     pub fn put(&mut self, gpa: Gpa, word: u64) -> Result<(), NoMemory>
         requires here { region_of (page_of gpa.0) ≡ self.old.number }
         requires aligned { gpa.0 % 8 ≡ 0 }

@@ -4,13 +4,13 @@ ghost use Rattle.std.specs.Option.{option_map};
 ghost use Rattle.svsm_steps.specs.Plan.{step_row};
 ghost use Rattle.svsm_steps.specs.Place.{place_of};
 ghost use Rattle.svsm_steps.specs.Formed.{IsWellFormed};
+ghost use Rattle.platform_trait.specs.WordsOf.{has_room};
 ghost use Rattle.machine_region.specs.Kinds.{is_of_region};
 ghost use Rattle.machine_region.specs.Room.{written, HasRoom};
 ghost use Rattle.machine_region.specs.Acted.{act_answer};
 ghost use Rattle.machine_region.specs.Operations.{numbers_view, first_listed, Makes};
 ghost use Rattle.machine_region.specs.Performed.{PerformsIn};
 ghost use Rattle.machine_region.specs.Views.{region_view};
-ghost use Rattle.machine_region.specs.Words.{has_room};
 
 use crate::carry::Carried;
 use crate::operations::Operations;
@@ -47,6 +47,7 @@ fn refused(answer: Answer) -> Carried
 
 impl RegionTable {
     /// Makes room for the word that a step writes.
+    #[tactic(auto, using(platform_trait::proofs::WordLemmas::with_room_here))]
     pub(crate) fn make_room(&mut self, step: &Step) -> Result<(), NoMemory>
         ensures room { OnOk result (HasRoom (has_room self.new.words) (written step.now)) }
         ensures view { region_view self.new ≡ region_view self.old }

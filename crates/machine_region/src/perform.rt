@@ -3,14 +3,14 @@ ghost use Rattle.std.specs.Prelude.{◌≡◌, ◌<◌, ◌≤◌, ◌%◌, leng
 ghost use Rattle.svsm_types.specs.Pages.{index_of, page_of, region_of, changed_at};
 ghost use Rattle.svsm_types.specs.Hardware.{blank, large_after, word_faults, clear_faults, rmpadjust_faults, with_validity, with_vmsa, with_right, fresh_page, validated_pages, adjusted_pages, after_write, after_clear, after_pvalidate, after_rmpadjust, after_assign, after_guest_adjust};
 ghost use Rattle.svsm_steps.specs.Plan.{faults, after};
+ghost use Rattle.platform_trait.specs.WordsOf.{has_room};
 ghost use Rattle.machine_region.specs.Micros.{micro_of, IsHere, ends, code_ends};
 ghost use Rattle.machine_region.specs.Views.{region_view, hw_view};
-ghost use Rattle.machine_region.specs.Words.{has_room};
 
 use crate::micro::Micro;
-use crate::pages::{adjust, assign, is_usable, validate, with_right};
 use crate::region::RegionTable;
 use crate::table::index_of;
+use platform_trait::{adjust, assign, is_usable, validate, with_right};
 use svsm_steps::Answer;
 use svsm_types::{Gpa, HwCode, Owner, Page, Perms, Size, Vmpl};
 

@@ -6,8 +6,8 @@ ghost use Rattle.svsm_types.specs.Hardware.{fits as fits_in, large_after, page_h
 ghost use Rattle.svsm_steps.specs.Checks.{same_owner, all_owned, all_recorded, none_recorded, first_other, is_open_to, is_open_to_both};
 ghost use Rattle.machine_region.specs.Views.{region_view, hw_view, row_in};
 
-use crate::pages::{are_assigned, are_usable, are_validated, has_bit, reaches, right_of};
 use crate::region::RegionTable;
+use platform_trait::{are_assigned, are_usable, are_validated, has_bit, reaches, right_of};
 use svsm_types::{Gpa, HwCode, Owner, Page, PageState, RmpRow, Size, Vmpl, page_of};
 
 /// The index of a page in its region.

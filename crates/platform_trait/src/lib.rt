@@ -16,7 +16,10 @@ mod word_pages;
 mod words;
 
 pub use opening::Opening;
-pub use pages::{fresh_page, has_bit, is_usable, reaches, right_of, with_right};
+pub use pages::{
+    adjust, are_assigned, are_usable, are_validated, assign, fresh_page, has_bit, is_usable,
+    reaches, right_of, validate, with_right,
+};
 pub use plain::PlainRmp;
 pub use rmp::Rmp;
 pub use scene::Scene;

@@ -1,10 +1,10 @@
 use Rattle.std.proofs.Common.{◌∙◌, sym, ap, subst}
 use Rattle.std.specs.Prelude.{map}
 use Rattle.svsm_steps.specs.declared.answer.Answer.{Answer}
+use Rattle.platform_trait.specs.WordsOf.{has_room}
 use Rattle.machine_region.specs.declared.carry.Carried.{Carried}
 use Rattle.machine_region.specs.Performed.{PerformsIn}
 use Rattle.machine_region.specs.Micros.{micro_of}
-use Rattle.machine_region.specs.Words.{has_room}
 use Rattle.machine_region.specs.Views.{region_view}
 use Rattle.machine_region.proofs.ActLemmas.{acted, here_at, makes, refused}
 use Rattle.machine_region.proofs.ForeseenLemmas.{act_answer_is}
