@@ -15,7 +15,7 @@ ghost use Rattle.machine_core.specs.Played.{Follows, FailsAt, Fails};
 
 use crate::kinds::{is_of_pool, is_of_region};
 use crate::play_error::PlayError;
-use crate::{Machine, pool, rows};
+use crate::{Machine, pool};
 use std::alloc::Global;
 use svsm_steps::{Answer, Entry, Step, place_of};
 use svsm_types::Image;
@@ -71,7 +71,7 @@ impl Machine {
         requires { is_of_registry step.now ≡ true }
         ensures { PerformsAs struck (constants_of self.now) (state_of self.now) step.now result (next_by (kind step.now) (constants_of self.now) (state_of self.now) step.now result) }
     {
-        rows::answer(&self.rows, self.apics.as_slice(), step)
+        self.registry.answer(step)
     }
 
     /// Carries out one entry of a history, at which this ticket is wanted. An error leaves the machine as it was.

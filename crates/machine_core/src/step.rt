@@ -1,9 +1,10 @@
 //! The steps of the machine.
-ghost use Rattle.std.specs.Prelude.{◌≡◌, ◌≤◌, ◌<◌, ◌*◌, length, IfOk, OnErr, true};
+ghost use Rattle.std.specs.Prelude.{◌≡◌, ◌≤◌, ◌<◌, ◌*◌, length, IfOk, OnOk, OnErr, true};
 ghost use Rattle.svsm_steps.specs.State.{row_at};
 ghost use Rattle.svsm_steps.specs.Formed.{IsWellFormed};
 ghost use Rattle.svsm_steps.specs.Machine.{kind, own_region};
 ghost use Rattle.svsm_steps.specs.DueFaults.{numbers_after};
+ghost use Rattle.vcpu_registry.specs.Spare.{HasSpareFor};
 ghost use Rattle.machine_region.specs.Kinds.{is_of_region, is_of_pool, is_of_registry};
 ghost use Rattle.machine_region.specs.Operations.{Makes};
 ghost use Rattle.machine_core.specs.Boots.{counted_at};
@@ -11,7 +12,7 @@ ghost use Rattle.machine_core.specs.Performed.{Performs, PerformsAs, listed_at};
 ghost use Rattle.machine_core.specs.Views.{state_of, constants_of, numbers_of};
 
 use crate::kinds::{is_of_pool, is_of_region};
-use crate::{Machine, pool, rows};
+use crate::{Machine, pool};
 use machine_region::Carried;
 use std::alloc::Global;
 use svsm_steps::{Answer, Step, place_of};
@@ -66,6 +67,19 @@ impl Machine {
         pool::step(&mut self.blocks, step)
     }
 
+    // Makes room for the row that a Reserve adds.
+    fn make_room(&mut self, step: &Step) -> Result<(), NoMemory>
+        ensures spare { OnOk result (HasSpareFor step.now self.new.registry.spare) }
+        ensures state { state_of self.new ≡ state_of self.old }
+        ensures numbers { numbers_of self.new ≡ numbers_of self.old }
+        ensures constants { constants_of self.new ≡ constants_of self.old }
+    {
+        match *step {
+            Step::Reserve { .. } => self.registry.reserve(),
+            _ => Ok(()),
+        }
+    }
+
     fn registry_step(&mut self, step: &Step, struck: Option<u8>) -> Result<Answer, NoMemory>
         requires { is_of_registry step.now ≡ true }
         ensures ok { IfOk result (λ answer. PerformsAs struck (constants_of self.old) (state_of self.old) step.now answer (state_of self.new)) }
@@ -74,7 +88,8 @@ impl Machine {
         ensures kept { OnErr result (numbers_of self.new ≡ numbers_of self.old) }
         ensures constants { constants_of self.new ≡ constants_of self.old }
     {
-        rows::step(&mut self.rows, self.apics.as_slice(), step)
+        self.make_room(step)?;
+        Ok(self.registry.act(step))
     }
 
     /// Carries out a step, in which at most one micro-operation is struck by a fault.
@@ -141,6 +156,6 @@ impl Machine {
     pub fn vcpus(&self) -> &[Row]
         ensures { result.now ≡ (state_of self.now).rows }
     {
-        &self.rows
+        self.registry.rows()
     }
 }

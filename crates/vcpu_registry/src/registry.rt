@@ -6,7 +6,7 @@ ghost use Rattle.svsm_steps.specs.Machine.{kind, registry};
 ghost use Rattle.svsm_steps.specs.Registry.{rows_answer, rows_after};
 ghost use Rattle.vcpu_registry.specs.Spare.{HasSpareFor, spare_after};
 
-use crate::changes::carry_out;
+use crate::changes::{carry_out, done_answer};
 use crate::checks::refusal;
 use crate::cores::{apics_of, rows_of};
 use std::alloc::Global;
@@ -80,6 +80,17 @@ impl Registry {
             self.spare = false;
         }
         answer
+    }
+
+    /// The answer that a step of the registry would give. Nothing is changed, and no spare row is wanted.
+    pub fn answer(&self, step: &Step) -> Answer
+        requires { kind step.now ≡ registry }
+        ensures { result ≡ rows_answer self.now.apics self.now.rows step.now }
+    {
+        match refusal(&self.apics, &self.rows, step) {
+            Some(answer) => answer,
+            None => done_answer(&self.rows, step),
+        }
     }
 
     /// The rows, in the order of their reservation.

@@ -22,10 +22,9 @@ fn vcpu_from_reserve_to_retire(rt: HostRuntime) -> Result<(), Fail> {
     );
     assert_eq!(rt; registry.act(&Step::Enter { apic }), Answer::Unknown);
     assert_eq!(rt; registry.act(&Step::Commit { page }), Answer::Done);
-    assert_eq!(rt;
-        registry.act(&Step::Enter { apic }),
-        Answer::Seen { page, caa }
-    );
+    let seen = Answer::Seen { page, caa };
+    assert_eq!(rt; registry.answer(&Step::Enter { apic }), seen);
+    assert_eq!(rt; registry.act(&Step::Enter { apic }), seen);
     assert_eq!(rt; registry.act(&Step::Retire { page }), Answer::Running);
     let caa = Gpa(0x5_0010);
     assert_eq!(rt; registry.act(&Step::Remap { apic, caa }), Answer::Done);

@@ -1,17 +1,14 @@
-//! The pool and the rows at boot.
-ghost use Rattle.std.specs.Prelude.{◌≡◌, ◌≤◌, ◌<◌, ◌*◌, ◌++◌, ◌∷◌, [], ℕ, IfOk, OnOk, map, flat_map, filter, ◌&&◌, if◌then◌else◌, List, length, ◌==◌};
-ghost use Rattle.std.specs.List.{range_with_len, list_any};
-ghost use Rattle.svsm_types.specs.declared.image.CoreLine.{CoreLine};
-ghost use Rattle.svsm_steps.specs.Checks.{same_owner};
-ghost use Rattle.svsm_steps.specs.Image.{owner_in, row_of, block_of, pages_of};
-ghost use Rattle.machine_core.specs.Boots.{at_page};
+//! The pool at boot.
+ghost use Rattle.std.specs.Prelude.{◌≡◌, ◌≤◌, ◌<◌, ◌*◌, ◌++◌, ◌∷◌, [], IfOk, OnOk, ◌&&◌, if◌then◌else◌, ◌==◌};
+ghost use Rattle.std.specs.List.{list_any};
+ghost use Rattle.svsm_steps.specs.Image.{block_of};
 ghost use Rattle.machine_core.specs.Pools.{is_pools_in, small_blocks, blocks_from, pool_from};
 ghost use Rattle.machine_core.specs.PoolView.{blocks_view};
 
 use crate::opening::{at_page, is_large};
 use machine_region::owner_in;
 use std::alloc::Global;
-use svsm_types::{CoreLine, NoMemory, Owner, Page, Range, Row, RowState, Size};
+use svsm_types::{NoMemory, Owner, Page, Range, Size};
 
 fn is_pools(table: &[Option<Range>], page: u64) -> bool
     ensures { result ≡ is_pools_in table.now page }
@@ -86,28 +83,4 @@ pub(crate) fn blocks_of(
         push_region(&mut blocks, table, large, region)?;
     }
     Ok(blocks)
-}
-
-/// One Ready row for each core that is not parked.
-pub(crate) fn rows_of(alloc: Global, cores: &[CoreLine]) -> Result<Vec<Row>, NoMemory>
-    ensures { IfOk result (λ rows. rows.items ≡ flat_map (λ (core : CoreLine). row_of core core.seat) cores.now) }
-{
-    let mut rows = Vec::new(alloc);
-    'cores: for core in cores {
-        if let Some((page, caa)) = core.seat {
-            rows.push(Row {
-                apic: core.apic,
-                page,
-                caa,
-                state: RowState::Ready,
-            })?;
-        }
-    }
-    Ok(rows)
-}
-
-pub(crate) fn apics_of(alloc: Global, cores: &[CoreLine]) -> Result<Vec<u32>, NoMemory>
-    ensures { IfOk result (λ apics. apics.items ≡ map (λ (core : CoreLine). core.apic) cores.now) }
-{
-    Ok(cores.iter().map(|core| core.apic).collect(alloc)?)
 }
