@@ -1,6 +1,6 @@
 -- Steps among so many regions.
 use Rattle.std.proofs.Common.{◌≡◌, ℕ, ◌+◌, ◌<◌, ◌≤◌, arith, refl, subst}
-use Rattle.svsm_types.specs.Pages.{region_of, page_of}
+use Rattle.svsm_types.specs.Pages.{page_of}
 use Rattle.svsm_types.specs.declared.platform.Size.{Size}
 use Rattle.svsm_types.specs.declared.platform.Size.TheVariants.{Small, Large}
 use Rattle.svsm_steps.specs.Place.{place_of}
@@ -10,7 +10,6 @@ use Rattle.svsm_steps.specs.declared.step.Step.TheVariants.{GuestWrite, GuestPen
 use Rattle.svsm_steps.specs.Machine.{Kind as StepKind, region, pool, registry, kind}
 use Rattle.svsm_steps.specs.Lawful.{IsAskedOf}
 use Rattle.svsm_laws.proofs.Places.{IsOf, place_of_kind}
-use Rattle.region_core.specs.Steps.{page_of_step}
 
 -- WHICH STEPS A PLACE IS ASKED
 
@@ -46,24 +45,24 @@ registry_is_asked regions number step asked at = registry_by (kind step) regions
 
 -- the place of a region's step is its region, however many there are
 pub place_same : (regions number : ℕ) (step : Step) → kind step ≡ region → place_of regions step ≡ number
-    → (place_of 512 step ≡ number) × (region_of (page_of_step step) ≡ number)
-place_same regions number (GuestWrite vmpl gpa word) k h = (h, h)
-place_same regions number (GuestPend vmpl gpa) k h = (h, h)
-place_same regions number (GuestRead vmpl gpa) k h = (h, h)
-place_same regions number (GuestAdjust vmpl page target mask) k h = (h, h)
-place_same regions number (HostShare page) k h = (h, h)
-place_same regions number (HostAssign page) k h = (h, h)
-place_same regions number (TakePending vmpl gpa) k h = (h, h)
-place_same regions number (LoadWord vmpl gpa) k h = (h, h)
-place_same regions number (StoreNext vmpl gpa next) k h = (h, h)
-place_same regions number (StoreEntry vmpl gpa word) k h = (h, h)
-place_same regions number (SetAvail vmpl gpa on) k h = (h, h)
-place_same regions number (ClearCaa vmpl gpa) k h = (h, h)
-place_same regions number (Validate vmpl page size on) k h = (h, h)
-place_same regions number (Deposit vmpl page size) k h = (h, h)
-place_same regions number (Release vmpl page size) k h = (h, h)
-place_same regions number (VmsaTake vmpl page features) k h = (h, h)
-place_same regions number (VmsaDrop vmpl page) k h = (h, h)
+    → place_of 512 step ≡ number
+place_same regions number (GuestWrite vmpl gpa word) k h = h
+place_same regions number (GuestPend vmpl gpa) k h = h
+place_same regions number (GuestRead vmpl gpa) k h = h
+place_same regions number (GuestAdjust vmpl page target mask) k h = h
+place_same regions number (HostShare page) k h = h
+place_same regions number (HostAssign page) k h = h
+place_same regions number (TakePending vmpl gpa) k h = h
+place_same regions number (LoadWord vmpl gpa) k h = h
+place_same regions number (StoreNext vmpl gpa next) k h = h
+place_same regions number (StoreEntry vmpl gpa word) k h = h
+place_same regions number (SetAvail vmpl gpa on) k h = h
+place_same regions number (ClearCaa vmpl gpa) k h = h
+place_same regions number (Validate vmpl page size on) k h = h
+place_same regions number (Deposit vmpl page size) k h = h
+place_same regions number (Release vmpl page size) k h = h
+place_same regions number (VmsaTake vmpl page features) k h = h
+place_same regions number (VmsaDrop vmpl page) k h = h
 place_same regions number _ k h = cc
 
 sized : (regions : ℕ) (size : Size) (page : ℕ) → regions ≤ 512 → IsSizedPage regions size page → IsSizedPage 512 size page

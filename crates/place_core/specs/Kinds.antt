@@ -6,7 +6,7 @@ use Rattle.svsm_steps.specs.declared.step.Step.{Step}
 use Rattle.svsm_steps.specs.Mapped.{AreBlocks, AreRows}
 use Rattle.svsm_steps.specs.Places.{PlaceValue, in_region, in_pool, in_registry}
 use Rattle.region_core.specs.Whole.{whole}
-use Rattle.region_core.specs.Steps.{page_of_step}
+use Rattle.region_core.specs.Steps.{HasRoomFor as HasWordsFor}
 use Rattle.rmp_table.specs.PackedKnown.{packed_known}
 use Rattle.place_core.specs.declared.kind.Kind.{Kind}
 use Rattle.place_core.specs.declared.kind.Kind.TheVariants.{Region, Pool, Registry}
@@ -45,11 +45,11 @@ IsMappedAt regions (in_region r) = ⊤
 IsMappedAt regions (in_pool blocks) = AreBlocks regions blocks
 IsMappedAt regions (in_registry rows) = AreRows regions rows
 
--- room was made for what a step writes: the words of its page, a block or a row
-abbrev pub has_room_for : Step → Kind → Bool
-has_room_for step (Region region) = (packed_known region.scene).room (page_of_step step)
-has_room_for step (Pool pool) = pool.spare
-has_room_for step (Registry registry) = registry.spare
+-- room was made for what a step writes: words, a block or a row
+abbrev pub HasRoomFor : Step → Kind → Type 0
+HasRoomFor step (Region region) = HasWordsFor step (packed_known region.scene).room
+HasRoomFor step (Pool pool) = pool.spare ≡ true
+HasRoomFor step (Registry registry) = registry.spare ≡ true
 
 -- whether a place is a region, the pool or the registry
 abbrev pub is_region : Kind → Bool

@@ -5,7 +5,7 @@ use Rattle.svsm_steps.specs.declared.step.Step.{Step}
 use Rattle.place_core.specs.declared.kind.Kind.{Kind}
 use Rattle.place_core.specs.declared.place.Kept.{Kept}
 use Rattle.place_core.specs.declared.place.Place.TheInside.{Inside}
-use Rattle.place_core.specs.Kinds.{apics_in, has_room_for}
+use Rattle.place_core.specs.Kinds.{apics_in, HasRoomFor}
 use Rattle.place_core.specs.PlaceView.{PlaceView, IsKept}
 
 -- what contracts see of it, by what stands in memory and what is known to contracts alone
@@ -28,4 +28,4 @@ view_of p = seen p.kept.value p.opening.value p.cores.value
 pub record IsWhole (p : Inside) : Type 0 where
   pub kept : IsKept (view_of p)
   pub entry : (step : Step) → p.kept.value.spare ≡ Some step → vec_len p.kept.value.log < vec_capacity p.kept.value.log
-  pub room : (step : Step) → p.kept.value.spare ≡ Some step → p.kept.value.pending ≡ None → has_room_for step p.kept.value.kind ≡ true
+  pub room : (step : Step) → p.kept.value.spare ≡ Some step → p.kept.value.pending ≡ None → HasRoomFor step p.kept.value.kind

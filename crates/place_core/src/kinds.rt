@@ -8,11 +8,10 @@ ghost use Rattle.svsm_steps.specs.Pool.{pool_answer, pool_after};
 ghost use Rattle.svsm_steps.specs.Places.{MayAt, place_after};
 ghost use Rattle.svsm_steps.specs.PlaceFaults.{due_in, numbers_in};
 ghost use Rattle.svsm_steps.specs.Lawful.{IsAskedOf};
-ghost use Rattle.place_core.specs.Kinds.{value_of, numbers_of, apics_in, has_room_for, IsPlaced, IsMappedAt};
+ghost use Rattle.place_core.specs.Kinds.{value_of, numbers_of, apics_in, HasRoomFor, IsPlaced, IsMappedAt};
 
 use crate::Kind;
 use deposit_pool::Pool;
-use region_core::page_of_step;
 use std::alloc::Global;
 use svsm_steps::{Answer, Step};
 use svsm_types::NoMemory;
@@ -32,11 +31,11 @@ pub(crate) fn room_for(
     ensures numbers { numbers_of kind.new ≡ numbers_of kind.old }
     ensures apics { (cores : List CoreLine) → apics_in cores kind.new ≡ apics_in cores kind.old }
     ensures placed { IsPlaced regions number kind.new }
-    ensures room { OnOk result (has_room_for step.now kind.new ≡ true) }
+    ensures room { OnOk result (HasRoomFor step.now kind.new) }
 {
     let _ = (regions, number);
     match kind {
-        Kind::Region(region) => region.room(alloc, page_of_step(step)),
+        Kind::Region(region) => region.room_for(alloc, step),
         Kind::Pool(pool) => pool.reserve(),
         Kind::Registry(registry) => registry.reserve(),
     }
@@ -68,7 +67,7 @@ pub(crate) fn act_on(kind: &mut Kind, regions: u64, number: u64, step: &Step) ->
     requires few { regions ≤ 512 }
     requires placed { IsPlaced regions number kind.old }
     requires asked { IsAskedOf regions number step.now }
-    requires room { has_room_for step.now kind.old ≡ true }
+    requires room { HasRoomFor step.now kind.old }
     ensures may { (cores : List CoreLine) → MayAt (apics_in cores kind.old) (value_of kind.old) step.now result }
     ensures after { (cores : List CoreLine) → value_of kind.new ≡ place_after (apics_in cores kind.old) (value_of kind.old) step.now result }
     ensures due { fault_at result ≡ due_in (numbers_of kind.old) (value_of kind.old) step.now }

@@ -1,15 +1,13 @@
 //! Region 0, of which all pages begin alike, before and after a step.
 ghost use Rattle.std.specs.Prelude.{◌≡◌, IfOk};
-ghost use Rattle.svsm_types.specs.Pages.{region_of};
 ghost use Rattle.svsm_steps.specs.Formed.{IsWellFormed};
 ghost use Rattle.svsm_steps.specs.Place.{place_of};
 ghost use Rattle.svsm_steps.specs.Machine.{kind, region as of_region};
-ghost use Rattle.region_core.specs.Steps.{page_of_step};
 ghost use Rattle.platform_trait.specs.PlainKnown.{plain_known};
 
 use super::platform::Struck;
 use super::silent::Silent;
-use crate::{Region, page_of_step};
+use crate::Region;
 use owner_map::OwnerMap;
 use platform_trait::{Opening, PlainRmp, Rmp, Scene};
 use std::alloc::Global;
@@ -88,10 +86,9 @@ fn tries<R: Scene + Drop>(
     requires here { (R.known region.scene).region ≡ 0 }
     requires formed { IsWellFormed 512 step.now }
     requires place { place_of 512 step.now ≡ 0 }
-    requires page { region_of (page_of_step step.now) ≡ 0 }
     requires own { kind step.now ≡ of_region }
 {
-    region.room(alloc, page_of_step(step))?;
+    region.room_for(alloc, step)?;
     assert_eq!(rt; region.act(step), expected.answer);
     for page in expected.pages {
         assert_eq!(rt; region.row(Page(page.0 % 512)), expected.row);
@@ -112,7 +109,6 @@ pub(crate) fn strikes(
 ) -> Result<(), NoMemory>
     requires formed { IsWellFormed 512 step.now }
     requires place { place_of 512 step.now ≡ 0 }
-    requires page { region_of (page_of_step step.now) ≡ 0 }
     requires own { kind step.now ≡ of_region }
 {
     for tells in [true, false] {
