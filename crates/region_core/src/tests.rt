@@ -2,7 +2,6 @@
 //! not. What stands then is told by the step table: the micro-operations before the one that faulted were performed.
 mod bench;
 mod platform;
-mod silent;
 
 use bench::{Expected, Start, assigned, strikes, struck};
 use platform_trait::Scene;

@@ -6,10 +6,9 @@ ghost use Rattle.svsm_steps.specs.Machine.{kind, region as of_region};
 ghost use Rattle.platform_trait.specs.PlainKnown.{plain_known};
 
 use super::platform::Struck;
-use super::silent::Silent;
 use crate::Region;
 use owner_map::OwnerMap;
-use platform_trait::{Opening, PlainRmp, Rmp, Scene};
+use platform_trait::{Opening, PlainRmp, Rmp, Scene, Silent};
 use std::alloc::Global;
 use std::process::Abort;
 use svsm_steps::{Answer, Step};

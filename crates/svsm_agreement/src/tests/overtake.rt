@@ -16,8 +16,10 @@ use svsm_types::Sequence;
 // How often a held core looks.
 const MOST_TURNS: u64 = 1 << 27;
 
-// How long the first core at a place is held.
-const TURNS: u64 = 1 << 24;
+// How often the first core at a place looks, and how often it looks between two yields: few of them, since where other programs
+// run each can take some milliseconds.
+const TURNS: u64 = 1 << 20;
+const BETWEEN_YIELDS: u64 = 1 << 10;
 
 // Holds one core at its step behind so many others, until the other core comes to a place, behind so many steps at least.
 #[derive(Drop)]
@@ -160,7 +162,7 @@ impl Gate for Alone {
             if self.met.load(Ordering::SeqCst) {
                 return;
             }
-            if turn % 64 == 0 {
+            if turn % BETWEEN_YIELDS == 0 {
                 thread::yield_now();
             }
         }

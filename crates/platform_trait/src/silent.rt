@@ -1,13 +1,13 @@
-//! A platform that does not tell its numbers.
+//! A platform that hides its operation numbers.
 ghost use Rattle.std.specs.Prelude.{None};
 
 use crate::{Rmp, Scene};
 use std::alloc::Global;
 use svsm_types::{Faulted, Gpa, HwCode, NoMemory, Page, PageState, Perms, Size, Vmpl};
 
-/// A platform that does not tell its numbers.
+/// A platform that does what another one does, and does not tell its operation numbers: of a fault it tells only that the count rose.
 #[derive(Drop)]
-pub(crate) struct Silent<R>(pub(crate) R);
+pub struct Silent<R>(pub R);
 
 impl<R: Rmp> Rmp for Silent<R> {
     ghost known = { λ p. record (R.known p.0) { told = None } };
