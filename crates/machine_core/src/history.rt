@@ -2,16 +2,14 @@
 ghost use Rattle.std.specs.Prelude.{◌≡◌, ◌≤◌, ◌+◌, ◌↔◌, length, IfOk, OnOk, OnErr, IfErr, true, IsTrue, ℕ};
 ghost use Rattle.svsm_steps.specs.Region.{fault_at};
 ghost use Rattle.svsm_steps.specs.Formed.{IsWellFormed, AreWellFormed};
-ghost use Rattle.svsm_steps.specs.DueFaults.{numbers_after};
-ghost use Rattle.svsm_steps.specs.NextEntry.{numbers_after_all};
-ghost use Rattle.svsm_steps.specs.Machine.{IsRunFrom, state_after, kind, next_by};
-ghost use Rattle.machine_core.specs.Views.{state_of, constants_of, numbers_of};
+ghost use Rattle.machine_core.specs.Views.{state_of, constants_of};
 ghost use Rattle.svsm_steps.specs.Sound.{IsSound};
 ghost use Rattle.svsm_steps.specs.Safe.{AlwaysSafe};
-ghost use Rattle.svsm_steps.specs.Image.{booted, booted_numbers, constants_of as constants_in};
+ghost use Rattle.svsm_steps.specs.Image.{booted, constants_of as constants_in};
 ghost use Rattle.machine_region.specs.Kinds.{is_of_region, is_of_pool, is_of_registry};
-ghost use Rattle.machine_core.specs.Performed.{PerformsAs};
-ghost use Rattle.machine_core.specs.Played.{Follows, FailsAt, Fails};
+ghost use Rattle.machine_core.specs.Performed.{Answers};
+ghost use Rattle.machine_core.specs.Played.{FailsAt, Fails, Followed, Played};
+ghost use Rattle.machine_core.specs.Standing.{Unchanged, booted_of, standing_of};
 
 use crate::kinds::{is_of_pool, is_of_region};
 use crate::play_error::PlayError;
@@ -40,7 +38,7 @@ impl Machine {
     /// The answer of a step in which at most one micro-operation is struck by a fault.
     fn answer(&self, step: &Step, struck: Option<u8>) -> Answer
         requires { IsWellFormed (constants_of self.now).regions step.now }
-        ensures { PerformsAs struck (constants_of self.now) (state_of self.now) step.now result (next_by (kind step.now) (constants_of self.now) (state_of self.now) step.now result) }
+        ensures { Answers struck step.now result (standing_of self.now) }
     {
         if is_of_region(step) {
             self.region_answer(step, struck)
@@ -54,7 +52,7 @@ impl Machine {
     fn region_answer(&self, step: &Step, struck: Option<u8>) -> Answer
         requires formed { IsWellFormed (constants_of self.now).regions step.now }
         requires region { is_of_region step.now ≡ true }
-        ensures { PerformsAs struck (constants_of self.now) (state_of self.now) step.now result (next_by (kind step.now) (constants_of self.now) (state_of self.now) step.now result) }
+        ensures { Answers struck step.now result (standing_of self.now) }
     {
         let place = place_of(self.regions.len() as u64, step);
         self.regions[place as usize].answer(step, struck)
@@ -62,14 +60,14 @@ impl Machine {
 
     fn pool_answer(&self, step: &Step, struck: Option<u8>) -> Answer
         requires { is_of_pool step.now ≡ true }
-        ensures { PerformsAs struck (constants_of self.now) (state_of self.now) step.now result (next_by (kind step.now) (constants_of self.now) (state_of self.now) step.now result) }
+        ensures { Answers struck step.now result (standing_of self.now) }
     {
         pool::answer(&self.blocks, step)
     }
 
     fn registry_answer(&self, step: &Step, struck: Option<u8>) -> Answer
         requires { is_of_registry step.now ≡ true }
-        ensures { PerformsAs struck (constants_of self.now) (state_of self.now) step.now result (next_by (kind step.now) (constants_of self.now) (state_of self.now) step.now result) }
+        ensures { Answers struck step.now result (standing_of self.now) }
     {
         self.registry.answer(step)
     }
@@ -82,11 +80,9 @@ impl Machine {
         entry: &Entry,
     ) -> Result<(), PlayError>
         requires { IsWellFormed (constants_of self.old).regions entry.now.step }
-        ensures ok { OnOk result (Follows (constants_of self.old) want (state_of self.old) entry.now (state_of self.new)) }
+        ensures ok { OnOk result (Followed want entry.now (standing_of self.old) (standing_of self.new)) }
         ensures err { IfErr result (λ error. FailsAt (constants_of self.old) want (state_of self.old) entry.now error) }
-        ensures numbers { OnOk result (numbers_of self.new ≡ numbers_after (kind entry.now.step) (constants_of self.old) (numbers_of self.old) (state_of self.old) entry.now.step entry.now.answer) }
-        ensures stays { OnErr result (state_of self.new ≡ state_of self.old) }
-        ensures kept { OnErr result (numbers_of self.new ≡ numbers_of self.old) }
+        ensures kept { OnErr result (Unchanged (standing_of self.old) (standing_of self.new)) }
         ensures constants { constants_of self.new ≡ constants_of self.old }
     {
         if entry.ticket != want {
@@ -119,9 +115,7 @@ impl Machine {
     /// Carries out the entries of a history, of which the first has the ticket 0.
     pub(crate) fn carry_all(&mut self, alloc: Global, run: &[Entry]) -> Result<(), PlayError>
         requires { AreWellFormed (constants_of self.old).regions run.now }
-        ensures ok { OnOk result (IsRunFrom (constants_of self.old) 0 (state_of self.old) run.now) }
-        ensures state { OnOk result (state_of self.new ≡ state_after (constants_of self.old) (state_of self.old) run.now) }
-        ensures numbers { OnOk result (numbers_of self.new ≡ numbers_after_all (constants_of self.old) (numbers_of self.old) (state_of self.old) run.now) }
+        ensures ok { OnOk result (Played run.now (standing_of self.old) (standing_of self.new)) }
         ensures err { IfErr result (λ error. Fails (constants_of self.old) 0 (state_of self.old) run.now error) }
         ensures constants { constants_of self.new ≡ constants_of self.old }
     {
@@ -141,9 +135,7 @@ impl Machine {
 pub fn play(alloc: Global, image: &Image, run: &[Entry]) -> Result<Machine, PlayError>
     requires image { IsSound image.now }
     requires formed { AreWellFormed image.now.regions run.now }
-    ensures run { IfOk result (λ machine. IsRunFrom (constants_in image.now) 0 (booted image.now) run.now) }
-    ensures state { IfOk result (λ machine. state_of machine ≡ state_after (constants_in image.now) (booted image.now) run.now) }
-    ensures numbers { IfOk result (λ machine. numbers_of machine ≡ numbers_after_all (constants_in image.now) (booted_numbers image.now) (booted image.now) run.now) }
+    ensures played { IfOk result (λ machine. Played run.now (booted_of image.now) (standing_of machine)) }
     ensures constants { IfOk result (λ machine. constants_of machine ≡ constants_in image.now) }
     ensures safe { IfOk result (λ machine. AlwaysSafe (constants_in image.now) (booted image.now) run.now) }
     ensures err { IfErr result (λ error. Fails (constants_in image.now) 0 (booted image.now) run.now error) }

@@ -2,13 +2,11 @@
 ghost use Rattle.std.specs.Prelude.{◌≡◌, ◌≤◌, ◌<◌, ◌*◌, length, IfOk, OnOk, OnErr, true};
 ghost use Rattle.svsm_steps.specs.State.{row_at};
 ghost use Rattle.svsm_steps.specs.Formed.{IsWellFormed};
-ghost use Rattle.svsm_steps.specs.Machine.{kind, own_region};
-ghost use Rattle.svsm_steps.specs.DueFaults.{numbers_after};
 ghost use Rattle.vcpu_registry.specs.Spare.{HasSpareFor};
 ghost use Rattle.machine_region.specs.Kinds.{is_of_region, is_of_pool, is_of_registry};
-ghost use Rattle.machine_region.specs.Operations.{Makes};
 ghost use Rattle.machine_core.specs.Boots.{counted_at};
-ghost use Rattle.machine_core.specs.Performed.{Performs, PerformsAs, listed_at};
+ghost use Rattle.machine_core.specs.Performed.{Carries, Stepped, SteppedAs, listed_in};
+ghost use Rattle.machine_core.specs.Standing.{Unchanged, standing_of};
 ghost use Rattle.machine_core.specs.Views.{state_of, constants_of, numbers_of};
 
 use crate::kinds::{is_of_pool, is_of_region};
@@ -22,10 +20,8 @@ impl Machine {
     fn carry_out(&mut self, step: &Step, struck: Option<u8>) -> Result<Carried, NoMemory>
         requires formed { IsWellFormed (constants_of self.old).regions step.now }
         requires region { is_of_region step.now ≡ true }
-        ensures ok { IfOk result (λ carried. PerformsAs struck (constants_of self.old) (state_of self.old) step.now carried.answer (state_of self.new)) }
-        ensures makes { IfOk result (λ carried. Makes (own_region (constants_of self.old) step.now (state_of self.old)) step.now carried.answer carried.operations) }
-        ensures err { OnErr result (state_of self.new ≡ state_of self.old) }
-        ensures numbers { numbers_of self.new ≡ numbers_of self.old }
+        ensures ok { IfOk result (λ carried. Carries struck step.now carried (standing_of self.old) (standing_of self.new)) }
+        ensures err { OnErr result (Unchanged (standing_of self.old) (standing_of self.new)) }
         ensures constants { constants_of self.new ≡ constants_of self.old }
     {
         let place = place_of(self.regions.len() as u64, step);
@@ -44,10 +40,8 @@ impl Machine {
     fn region_step(&mut self, step: &Step, struck: Option<u8>) -> Result<Answer, NoMemory>
         requires formed { IsWellFormed (constants_of self.old).regions step.now }
         requires region { is_of_region step.now ≡ true }
-        ensures ok { IfOk result (λ answer. PerformsAs struck (constants_of self.old) (state_of self.old) step.now answer (state_of self.new)) }
-        ensures numbers { IfOk result (λ answer. numbers_of self.new ≡ numbers_after (kind step.now) (constants_of self.old) (numbers_of self.old) (state_of self.old) step.now answer) }
-        ensures err { OnErr result (state_of self.new ≡ state_of self.old) }
-        ensures kept { OnErr result (numbers_of self.new ≡ numbers_of self.old) }
+        ensures ok { IfOk result (λ answer. SteppedAs struck step.now answer (standing_of self.old) (standing_of self.new)) }
+        ensures err { OnErr result (Unchanged (standing_of self.old) (standing_of self.new)) }
         ensures constants { constants_of self.new ≡ constants_of self.old }
     {
         let carried = self.carry_out(step, struck)?;
@@ -58,10 +52,8 @@ impl Machine {
 
     fn pool_step(&mut self, step: &Step, struck: Option<u8>) -> Result<Answer, NoMemory>
         requires { is_of_pool step.now ≡ true }
-        ensures ok { IfOk result (λ answer. PerformsAs struck (constants_of self.old) (state_of self.old) step.now answer (state_of self.new)) }
-        ensures numbers { IfOk result (λ answer. numbers_of self.new ≡ numbers_after (kind step.now) (constants_of self.old) (numbers_of self.old) (state_of self.old) step.now answer) }
-        ensures err { OnErr result (state_of self.new ≡ state_of self.old) }
-        ensures kept { OnErr result (numbers_of self.new ≡ numbers_of self.old) }
+        ensures ok { IfOk result (λ answer. SteppedAs struck step.now answer (standing_of self.old) (standing_of self.new)) }
+        ensures err { OnErr result (Unchanged (standing_of self.old) (standing_of self.new)) }
         ensures constants { constants_of self.new ≡ constants_of self.old }
     {
         pool::step(&mut self.blocks, step)
@@ -70,9 +62,7 @@ impl Machine {
     // Makes room for the row that a Reserve adds.
     fn make_room(&mut self, step: &Step) -> Result<(), NoMemory>
         ensures spare { OnOk result (HasSpareFor step.now self.new.registry.spare) }
-        ensures state { state_of self.new ≡ state_of self.old }
-        ensures numbers { numbers_of self.new ≡ numbers_of self.old }
-        ensures constants { constants_of self.new ≡ constants_of self.old }
+        ensures machine { Unchanged (standing_of self.old) (standing_of self.new) }
     {
         match *step {
             Step::Reserve { .. } => self.registry.reserve(),
@@ -82,10 +72,8 @@ impl Machine {
 
     fn registry_step(&mut self, step: &Step, struck: Option<u8>) -> Result<Answer, NoMemory>
         requires { is_of_registry step.now ≡ true }
-        ensures ok { IfOk result (λ answer. PerformsAs struck (constants_of self.old) (state_of self.old) step.now answer (state_of self.new)) }
-        ensures numbers { IfOk result (λ answer. numbers_of self.new ≡ numbers_after (kind step.now) (constants_of self.old) (numbers_of self.old) (state_of self.old) step.now answer) }
-        ensures err { OnErr result (state_of self.new ≡ state_of self.old) }
-        ensures kept { OnErr result (numbers_of self.new ≡ numbers_of self.old) }
+        ensures ok { IfOk result (λ answer. SteppedAs struck step.now answer (standing_of self.old) (standing_of self.new)) }
+        ensures err { OnErr result (Unchanged (standing_of self.old) (standing_of self.new)) }
         ensures constants { constants_of self.new ≡ constants_of self.old }
     {
         self.make_room(step)?;
@@ -95,10 +83,8 @@ impl Machine {
     /// Carries out a step, in which at most one micro-operation is struck by a fault.
     pub(crate) fn step_as(&mut self, step: &Step, struck: Option<u8>) -> Result<Answer, NoMemory>
         requires formed { IsWellFormed (constants_of self.old).regions step.now }
-        ensures ok { IfOk result (λ answer. PerformsAs struck (constants_of self.old) (state_of self.old) step.now answer (state_of self.new)) }
-        ensures numbers { IfOk result (λ answer. numbers_of self.new ≡ numbers_after (kind step.now) (constants_of self.old) (numbers_of self.old) (state_of self.old) step.now answer) }
-        ensures err { OnErr result (state_of self.new ≡ state_of self.old) }
-        ensures kept { OnErr result (numbers_of self.new ≡ numbers_of self.old) }
+        ensures ok { IfOk result (λ answer. SteppedAs struck step.now answer (standing_of self.old) (standing_of self.new)) }
+        ensures err { OnErr result (Unchanged (standing_of self.old) (standing_of self.new)) }
         ensures constants { constants_of self.new ≡ constants_of self.old }
     {
         if is_of_region(step) {
@@ -113,7 +99,7 @@ impl Machine {
     fn region_listed(&self, step: &Step) -> Option<u8>
         requires formed { IsWellFormed (constants_of self.now).regions step.now }
         requires region { is_of_region step.now ≡ true }
-        ensures { result ≡ listed_at (kind step.now) (constants_of self.now) (numbers_of self.now) (state_of self.now) step.now }
+        ensures { result ≡ listed_in (standing_of self.now) step.now }
     {
         let place = place_of(self.regions.len() as u64, step);
         self.regions[place as usize].first_listed(step, &self.operations[place as usize])
@@ -122,7 +108,7 @@ impl Machine {
     // The micro-operation at which a listed operation strikes a step.
     fn listed(&self, step: &Step) -> Option<u8>
         requires formed { IsWellFormed (constants_of self.now).regions step.now }
-        ensures { result ≡ listed_at (kind step.now) (constants_of self.now) (numbers_of self.now) (state_of self.now) step.now }
+        ensures { result ≡ listed_in (standing_of self.now) step.now }
     {
         if is_of_region(step) {
             self.region_listed(step)
@@ -134,10 +120,8 @@ impl Machine {
     /// The machine's one answer. Want of memory leaves the machine as it was.
     pub fn step(&mut self, _alloc: Global, step: &Step) -> Result<Answer, NoMemory>
         requires { IsWellFormed (constants_of self.old).regions step.now }
-        ensures ok { IfOk result (λ answer. Performs (constants_of self.old) (numbers_of self.old) (state_of self.old) step.now answer (state_of self.new)) }
-        ensures numbers { IfOk result (λ answer. numbers_of self.new ≡ numbers_after (kind step.now) (constants_of self.old) (numbers_of self.old) (state_of self.old) step.now answer) }
-        ensures err { OnErr result (state_of self.new ≡ state_of self.old) }
-        ensures kept { OnErr result (numbers_of self.new ≡ numbers_of self.old) }
+        ensures ok { IfOk result (λ answer. Stepped step.now answer (standing_of self.old) (standing_of self.new)) }
+        ensures err { OnErr result (Unchanged (standing_of self.old) (standing_of self.new)) }
         ensures constants { constants_of self.new ≡ constants_of self.old }
     {
         let struck = self.listed(step);

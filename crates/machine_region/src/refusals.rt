@@ -1,10 +1,10 @@
 //! Which steps are refused.
 ghost use Rattle.std.specs.Prelude.{◌≡◌, ◌<◌, ◌≤◌, ◌*◌, ◌%◌, true, false, ◌&&◌, None, Some, if◌then◌else◌, ℕ};
-ghost use Rattle.svsm_steps.specs.Checks.{refusal, first_other, is_open_to, is_open_to_both, all_owned, all_recorded, none_recorded};
+ghost use Rattle.svsm_steps.specs.Checks.{refusal};
 ghost use Rattle.svsm_steps.specs.Formed.{IsWellFormed};
-ghost use Rattle.svsm_types.specs.Hardware.{guest_may, guest_may_adjust};
 ghost use Rattle.machine_region.specs.Kinds.{is_of_region};
-ghost use Rattle.machine_region.specs.Views.{region_view, hw_view};
+ghost use Rattle.machine_region.specs.Others.{strange};
+ghost use Rattle.machine_region.specs.Views.{region_view};
 
 use crate::region::RegionTable;
 use svsm_steps::{Answer, Step};
@@ -52,8 +52,8 @@ impl RegionTable {
         unless(self.all_recorded(size, page), Answer::Refused)
     }
 
-    fn vmsa_refused(&self, page: Page) -> Option<Answer>
-        ensures { result ≡ (if all_owned Owner.Guest Size.Small page.0 (region_view self.now) && all_recorded Size.Small page.0 (region_view self.now) then None else Some Answer.Refused) }
+    fn vmsa_refused(&self, vmpl: Vmpl, page: Page, features: u64) -> Option<Answer>
+        ensures { result ≡ refusal (region_view self.now) (Step.VmsaTake vmpl page features) }
     {
         let may = self.all_are(Size::Small, page, Owner::Guest)
             && self.all_recorded(Size::Small, page);
@@ -62,7 +62,7 @@ impl RegionTable {
 
     // Another owner is found.
     fn strange(&self, page: Page, size: Size, owner: Owner) -> Option<Answer>
-        ensures { result ≡ (if all_owned owner size page.0 (region_view self.now) then None else Some (Answer.Strange (first_other owner size page.0 (region_view self.now)))) }
+        ensures { result ≡ strange owner size page.0 (region_view self.now) }
     {
         let other = self.first_other(size, page, owner);
         unless(self.all_are(size, page, owner), Answer::Strange(other))
@@ -106,7 +106,11 @@ impl RegionTable {
             } => self.validate_refused(vmpl, page, size, on),
             Step::Deposit { vmpl, page, size } => self.deposit_refused(vmpl, page, size),
             Step::Release { page, size, .. } => self.strange(page, size, Owner::Pool),
-            Step::VmsaTake { page, .. } => self.vmsa_refused(page),
+            Step::VmsaTake {
+                vmpl,
+                page,
+                features,
+            } => self.vmsa_refused(vmpl, page, features),
             Step::VmsaDrop { page, .. } => self.strange(page, Size::Small, Owner::Vmsa),
             _ => unreachable!(),
         }

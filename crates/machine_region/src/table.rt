@@ -1,9 +1,10 @@
 //! Tests and changes of the pages that an operation covers.
-ghost use Rattle.std.specs.Prelude.{◌≡◌, ◌<◌, ◌≤◌, length, map, not, find, false, slice_index_or};
+ghost use Rattle.std.specs.Prelude.{◌≡◌, ◌<◌, ◌≤◌, length, map, false, slice_index_or};
 ghost use Rattle.std.specs.List.{list_all};
-ghost use Rattle.svsm_types.specs.Pages.{index_of, page_of, covered, changed_at};
-ghost use Rattle.svsm_types.specs.Hardware.{fits as fits_in, large_after, page_holding, pvalidate_answer, validated_pages, guest_may, guest_may_adjust, all_usable};
+ghost use Rattle.svsm_types.specs.Pages.{index_of, page_of, covered};
+ghost use Rattle.svsm_types.specs.Hardware.{fits as fits_in, page_holding, pvalidate_answer, guest_may, guest_may_adjust, all_usable};
 ghost use Rattle.svsm_steps.specs.Checks.{same_owner, all_owned, all_recorded, none_recorded, first_other, is_open_to, is_open_to_both};
+ghost use Rattle.machine_region.specs.Others.{other_owner};
 ghost use Rattle.machine_region.specs.Views.{region_view, hw_view, row_in};
 
 use crate::region::RegionTable;
@@ -134,7 +135,7 @@ impl RegionTable {
     }
 
     fn other(&self, size: Size, page: Page, owner: Owner) -> Option<Owner>
-        ensures { result ≡ find (λ o. not (same_owner o owner)) (covered Owner.Guest size (index_of page.0) (region_view self.now).owner) }
+        ensures { result ≡ other_owner owner size page.0 (region_view self.now) }
     {
         match size {
             Size::Small => {

@@ -27,18 +27,12 @@ returns-clause-ok c =
     subst (λ (a : Answer). MayGive (kind c.args.entry.now.step) (constants_of c.args.self.now) (state_of c.args.self.now) c.args.entry.now.step a) same c.answer-computed.ensures.may in
     let place : c.args.entry.now.place ≡ place_of (length c.args.self.now.regions.items) c.args.entry.now.step =
     c.if-entry-place.false ∙ c.place_of-place.ensures ∙ ap (λ (n : ℕ). place_of n c.args.entry.now.step) (c.len.ensures ∙ c.args.self.now.regions.ok.0) in
-    legal c.fault_at-struck.result (constants_of c.args.self.now) (state_of c.args.self.now) (state_of c.step_as.new.self) c.args.entry.now c.in_ok-step_as.field-0 c.args.want c.args.entry.now.place
-    c.if-entry-want.false place c.in_ok-step_as.ensures.ok
-    (sole c.fault_at-struck.result (constants_of c.args.self.now) (state_of c.args.self.now) (state_of c.step_as.new.self) c.args.entry.now.step c.args.entry.now.answer c.in_ok-step_as.field-0
-    c.fault_at-struck.ensures c.in_ok-step_as.ensures.ok may)
-
-pub returns-clause-numbers : goal.returns-clause-numbers
-returns-clause-numbers c =
-    let t : c.same_answer.result ≡ true = search rules in
-    let same : c.answer-computed.result ≡ c.args.entry.now.answer = c.same_answer.ensures.0 t in
-    let may : MayGive (kind c.args.entry.now.step) (constants_of c.args.self.now) (state_of c.args.self.now) c.args.entry.now.step c.args.entry.now.answer =
-    subst (λ (a : Answer). MayGive (kind c.args.entry.now.step) (constants_of c.args.self.now) (state_of c.args.self.now) c.args.entry.now.step a) same c.answer-computed.ensures.may in
-    c.in_ok-step_as.ensures.numbers
-    ∙ ap {B = ℕ → Numbers} (λ (a : Answer). numbers_after (kind c.args.entry.now.step) (constants_of c.args.self.now) (numbers_of c.args.self.now) (state_of c.args.self.now) c.args.entry.now.step a)
-    (sole c.fault_at-struck.result (constants_of c.args.self.now) (state_of c.args.self.now) (state_of c.step_as.new.self) c.args.entry.now.step c.args.entry.now.answer c.in_ok-step_as.field-0
-    c.fault_at-struck.ensures c.in_ok-step_as.ensures.ok may)
+    let kept : c.in_ok-step_as.field-0 ≡ c.args.entry.now.answer =
+    sole c.fault_at-struck.result (constants_of c.args.self.now) (state_of c.args.self.now) (state_of c.step_as.new.self) c.args.entry.now.step c.args.entry.now.answer c.in_ok-step_as.field-0
+    c.fault_at-struck.ensures c.in_ok-step_as.ensures.ok.performs may in
+    record {
+      follows = legal c.fault_at-struck.result (constants_of c.args.self.now) (state_of c.args.self.now) (state_of c.step_as.new.self) c.args.entry.now c.in_ok-step_as.field-0 c.args.want c.args.entry.now.place
+          c.if-entry-want.false place c.in_ok-step_as.ensures.ok.performs kept;
+      numbers = c.in_ok-step_as.ensures.ok.numbers
+          ∙ ap {B = ℕ → Numbers} (λ (a : Answer). numbers_after (kind c.args.entry.now.step) (constants_of c.args.self.now) (numbers_of c.args.self.now) (state_of c.args.self.now) c.args.entry.now.step a) kept;
+    }
