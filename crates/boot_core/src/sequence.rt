@@ -45,7 +45,8 @@ fn run<H: Host, R: Scene>(
     requires ghcb { region_of ghcb.0 < length regions.old }
     requires low { ghcb.0 < 2 ^ 40 }
     requires placed { Each (λ r. seen (R.known r.scene) r.owners) regions.old IsPlaced }
-    ensures { (events : List Event) × Leads H.answers H.returns host.old events host.new × GoesBoot (λ r. seen (R.known r.scene) r.owners) ghcb.0 vmpl.0 batches.old page.old events result regions.old regions.new }
+    ensures { (events : List Event) × Leads H.answers H.returns host.old events host.new
+        × GoesBoot (λ r. seen (R.known r.scene) r.owners) ghcb.0 vmpl.0 batches.old page.old events result regions.old regions.new }
 {
     if let Err(error) = ask_first(host, ghcb) {
         return Err(error);
@@ -75,9 +76,11 @@ pub fn boot<H: Host, R: Scene>(
     ensures counts { CountsBy (λ r. seen (R.known r.scene) r.owners) regions.old regions.new result }
 
     // Where all platforms tell the numbers of their operations, faults come just where they are due.
-    ensures due { Each (λ r. seen (R.known r.scene) r.owners) regions.old Tells → (events : List Event) × Leads H.answers H.returns host.old events host.new × SaidAsDue image.now events result }
+    ensures due { Each (λ r. seen (R.known r.scene) r.owners) regions.old Tells
+        → (events : List Event) × Leads H.answers H.returns host.old events host.new × SaidAsDue image.now events result }
 
-    ensures booted { OnOk result (Each (λ r. seen (R.known r.scene) r.owners) regions.new (Stands (booted image.now) (booted_numbers image.now))) }
+    ensures booted { OnOk result (
+        Each (λ r. seen (R.known r.scene) r.owners) regions.new (Stands (booted image.now) (booted_numbers image.now))) }
     ensures tells { OnOk result (TellsStill (λ r. seen (R.known r.scene) r.owners) regions.old regions.new) }
 {
     let mut page = GhcbPage::new(alloc)?;
@@ -106,7 +109,8 @@ pub fn boot_image<R: Scene>(
     // It ends as the image alone says.
     ensures ends { (result ≡ Err BootError.NoMemory) ⊎ BootEnds image.now result }
     ensures counts { CountsBy (λ r. seen (R.known r.scene) r.owners) regions.old regions.new result }
-    ensures booted { OnOk result (Each (λ r. seen (R.known r.scene) r.owners) regions.new (Stands (booted image.now) (booted_numbers image.now))) }
+    ensures booted { OnOk result (
+        Each (λ r. seen (R.known r.scene) r.owners) regions.new (Stands (booted image.now) (booted_numbers image.now))) }
     ensures tells { OnOk result (TellsStill (λ r. seen (R.known r.scene) r.owners) regions.old regions.new) }
 {
     let mut host = HostSim::new(alloc, image)?;
