@@ -11,11 +11,11 @@ use Rattle.svsm_steps.specs.Image.{image_state}
 use Rattle.region_core.specs.Accepts.{Shares}
 use Rattle.region_core.specs.Stands.{Seen, Each, Stands, Tells, fresh_numbers}
 use Rattle.psc_batch.specs.declared.error.PscError.{PscError}
-use Rattle.psc_batch.specs.Host.{Event}
+use Rattle.psc_batch.specs.Host.{HostEvent}
 use Rattle.boot_core.specs.declared.error.BootError.{BootError}
 use Rattle.boot_core.specs.declared.error.BootError.TheVariants.{Psc, Fault}
 use Rattle.boot_core.specs.Asks.{Terminates}
-use Rattle.boot_core.specs.Entries.{decoded, image_batches, IsFaultIn, AreFaultsIn}
+use Rattle.boot_core.specs.Entries.{decoded_entry, image_batches, IsFaultIn, AreFaultsIn}
 use Rattle.boot_core.specs.Regions.{ChangesOne, AcceptsAll}
 use Rattle.boot_core.specs.Goes.{Accepted, GoesBatch, GoesAll, MayShare, GoesBoot}
 use Rattle.boot_core.specs.Faults.{first_fault, batch_faults, shared_state, image_faults}
@@ -25,7 +25,7 @@ use Rattle.boot_core.proofs.TellLemmas.{page_of_fault, all_due, all_tell, share_
 use Rattle.boot_core.proofs.WentLemmas.{went_well}
 use Rattle.boot_core.proofs.ImageLemmas.{IsBootable, boot_within, nested}
 
-by_given : (given : Result (Unit {0}) Page) (events : List Event) (result : Result (Unit {0}) BootError) → MatchResult given (λ _. (events ≡ []) × (result ≡ Ok tt)) (λ page. Terminates 0 events × (result ≡ Err (Fault page))) → AcceptsEnd (page_of_fault given) events result
+by_given : (given : Result (Unit {0}) Page) (events : List HostEvent) (result : Result (Unit {0}) BootError) → MatchResult given (λ _. (events ≡ []) × (result ≡ Ok tt)) (λ page. Terminates 0 events × (result ≡ Err (Fault page))) → AcceptsEnd (page_of_fault given) events result
 by_given (Ok done) events result h = h
 by_given (Err page) events result h = h
 
@@ -37,13 +37,13 @@ given_in see vmpl [] (Err page) old new h = cc (h.1)
 given_in see vmpl (word ∷ words) (Err page) old new (mid, Err fault, change, rest) = inl (cc (rest.1))
 given_in see vmpl (word ∷ words) (Err page) old new (mid, Ok done, change, rest) = inr (given_in see vmpl words (Err page) mid new rest)
 
-then_said : {A : Type 0} (see : A → Seen) (vmpl : ℕ) (batch : List ℕ) (rest : List Event) (result : Result (Unit {0}) BootError) (old new : List A) (answer : Result (Unit {0}) PscError)
+then_said : {A : Type 0} (see : A → Seen) (vmpl : ℕ) (batch : List ℕ) (rest : List HostEvent) (result : Result (Unit {0}) BootError) (old new : List A) (answer : Result (Unit {0}) PscError)
     → MatchResult answer (λ _. Accepted see vmpl batch rest result old new) (λ error. (new ≡ old) × (Terminates 0 rest × (result ≡ Err (Psc error))))
     → (fault : Option Page) × IsFaultIn batch fault × MatchResult answer (λ _. AcceptsEnd fault rest result) (λ error. Terminates 0 rest × (result ≡ Err (Psc error)))
 then_said see vmpl batch rest result old new (Ok done) h = (page_of_fault h.given, given_in see vmpl batch h.given old new h.accepts, by_given h.given rest result h.said)
 then_said see vmpl batch rest result old new (Err error) h = (None, tt, h.1)
 
-batch_said : {A : Type 0} (see : A → Seen) (vmpl buffer : ℕ) (batch page left : List ℕ) (events : List Event) (result : Result (Unit {0}) BootError) (old new : List A) → GoesBatch see vmpl buffer batch page left events result old new
+batch_said : {A : Type 0} (see : A → Seen) (vmpl buffer : ℕ) (batch page left : List ℕ) (events : List HostEvent) (result : Result (Unit {0}) BootError) (old new : List A) → GoesBatch see vmpl buffer batch page left events result old new
     → (fault : Option Page) × IsFaultIn batch fault × BatchEnds buffer batch page left fault events result
 batch_said see vmpl buffer batch page left events result old new h =
     let then = then_said see vmpl batch h.rest result old new h.answer h.then in
@@ -58,7 +58,7 @@ unfolding no_faults
 no_faults_in [] = tt
 no_faults_in (batch ∷ batches) = (tt, no_faults_in batches)
 
-batches_said : {A : Type 0} (see : A → Seen) (vmpl buffer : ℕ) (batches : List (List ℕ)) (page : List ℕ) (events : List Event) (result : Result (Unit {0}) BootError) (old new : List A) → GoesAll see vmpl buffer batches page events result old new
+batches_said : {A : Type 0} (see : A → Seen) (vmpl buffer : ℕ) (batches : List (List ℕ)) (page : List ℕ) (events : List HostEvent) (result : Result (Unit {0}) BootError) (old new : List A) → GoesAll see vmpl buffer batches page events result old new
     → (faults : List (Option Page)) × AreFaultsIn batches faults × BatchesEnd buffer batches faults page events result
 batches_said see vmpl buffer [] page events result old new h = ([], tt, (h.0, h.1.0))
 batches_said see vmpl buffer (batch ∷ batches) page events result old new (here, rest, left, Ok done, mid, said, goes, others) =
@@ -69,30 +69,30 @@ batches_said see vmpl buffer (batch ∷ batches) page events result old new (her
     let one = batch_said see vmpl buffer batch page left here (Err error) old mid goes in
     (one.0 ∷ no_faults batches, (one.1, no_faults_in batches), (here, rest, left, Err error, said, one.2, (others.0, others.1.0)))
 
-boot_then : {A : Type 0} (see : A → Seen) (image : Image) (second : List Event) (result : Result (Unit {0}) BootError) (old new : List A) (answer : Result (Unit {0}) BootError)
+boot_then : {A : Type 0} (see : A → Seen) (image : Image) (second : List HostEvent) (result : Result (Unit {0}) BootError) (old new : List A) (answer : Result (Unit {0}) BootError)
     → MatchResult answer (λ _. (mid : List A) × ChangesOne see (region_of image.ghcb.0) (Shares image.ghcb.0) old mid × GoesAll see image.vmpl.0 (buffer_of image.ghcb.0) (image_batches image) blank_page second result mid new) (λ error. (second ≡ []) × ((result ≡ Err error) × MayShare see image.ghcb.0 old new))
     → (faults : List (Option Page)) × AreFaultsIn (image_batches image) faults × MatchResult answer (λ _. BatchesEnd (buffer_of image.ghcb.0) (image_batches image) faults blank_page second result) (λ error. (second ≡ []) × (result ≡ Err error))
 boot_then see image second result old new (Ok done) h = batches_said see image.vmpl.0 (buffer_of image.ghcb.0) (image_batches image) blank_page second result h.0 new h.2
 boot_then see image second result old new (Err error) h = (no_faults (image_batches image), no_faults_in (image_batches image), (h.0, h.1.0))
 
-pub boot_said : {A : Type 0} (see : A → Seen) (image : Image) (events : List Event) (result : Result (Unit {0}) BootError) (old new : List A) → GoesBoot see image.ghcb.0 image.vmpl.0 (image_batches image) blank_page events result old new → SaidBy image events result
+pub boot_said : {A : Type 0} (see : A → Seen) (image : Image) (events : List HostEvent) (result : Result (Unit {0}) BootError) (old new : List A) → GoesBoot see image.announce image.ghcb.0 image.vmpl.0 (image_batches image) blank_page events result old new → SaidBy image events result
 boot_said see image events result old new h =
     let then = boot_then see image h.second result old new h.answer h.then in
     inr (then.0, then.1, record { first = h.first; second = h.second; answer = h.answer; said = h.said; asks = h.asks; then = then.2 })
 
 -- OVER PLATFORMS THAT TELL THEIR NUMBERS
 
-then_due : {A : Type 0} (see : A → Seen) (vmpl : ℕ) (batch : List ℕ) (rest : List Event) (result : Result (Unit {0}) BootError) (old new : List A) (answer : Result (Unit {0}) PscError) (state : State) (numbers : ℕ → Numbers) (none : A)
+then_due : {A : Type 0} (see : A → Seen) (vmpl : ℕ) (batch : List ℕ) (rest : List HostEvent) (result : Result (Unit {0}) BootError) (old new : List A) (answer : Result (Unit {0}) PscError) (state : State) (numbers : ℕ → Numbers) (none : A)
     → Each see old (Stands state numbers) → Each see old Tells → AllByRecursion (IsWithin (length old)) batch
     → MatchResult answer (λ _. Accepted see vmpl batch rest result old new) (λ error. (new ≡ old) × (Terminates 0 rest × (result ≡ Err (Psc error))))
-    → MatchResult answer (λ _. AcceptsEnd (first_fault vmpl (map decoded batch) numbers state) rest result) (λ error. Terminates 0 rest × (result ≡ Err (Psc error)))
+    → MatchResult answer (λ _. AcceptsEnd (first_fault vmpl (map decoded_entry batch) numbers state) rest result) (λ error. Terminates 0 rest × (result ≡ Err (Psc error)))
 then_due see vmpl batch rest result old new (Err error) state numbers none stand tells within h = h.1
 then_due see vmpl batch rest result old new (Ok done) state numbers none stand tells within h =
     subst (λ due. AcceptsEnd due rest result) (sym (all_due see vmpl batch h.given old new state numbers none stand tells within h.accepts)) (by_given h.given rest result h.said)
 
-batch_due : {A : Type 0} (see : A → Seen) (vmpl buffer : ℕ) (batch page left : List ℕ) (events : List Event) (result : Result (Unit {0}) BootError) (old new : List A) (state : State) (numbers : ℕ → Numbers) (none : A)
+batch_due : {A : Type 0} (see : A → Seen) (vmpl buffer : ℕ) (batch page left : List ℕ) (events : List HostEvent) (result : Result (Unit {0}) BootError) (old new : List A) (state : State) (numbers : ℕ → Numbers) (none : A)
     → Each see old (Stands state numbers) → Each see old Tells → AllByRecursion (IsWithin (length old)) batch → GoesBatch see vmpl buffer batch page left events result old new
-    → BatchEnds buffer batch page left (first_fault vmpl (map decoded batch) numbers state) events result
+    → BatchEnds buffer batch page left (first_fault vmpl (map decoded_entry batch) numbers state) events result
 batch_due see vmpl buffer batch page left events result old new state numbers none stand tells within h = record {
   exchange = h.exchange;
   rest = h.rest;
@@ -102,7 +102,7 @@ batch_due see vmpl buffer batch page left events result old new state numbers no
   then = then_due see vmpl batch h.rest result old new h.answer state numbers none stand tells within h.then;
 }
 
-batches_due : {A : Type 0} (see : A → Seen) (vmpl buffer : ℕ) (batches : List (List ℕ)) (page : List ℕ) (events : List Event) (result : Result (Unit {0}) BootError) (old new : List A) (state : State) (numbers : ℕ → Numbers) (none : A)
+batches_due : {A : Type 0} (see : A → Seen) (vmpl buffer : ℕ) (batches : List (List ℕ)) (page : List ℕ) (events : List HostEvent) (result : Result (Unit {0}) BootError) (old new : List A) (state : State) (numbers : ℕ → Numbers) (none : A)
     → Each see old (Stands state numbers) → Each see old Tells → AllByRecursion (λ batch. AllByRecursion (IsWithin (length old)) batch) batches → GoesAll see vmpl buffer batches page events result old new
     → BatchesEnd buffer batches (batch_faults vmpl batches numbers state) page events result
 batches_due see vmpl buffer [] page events result old new state numbers none stand tells within h = (h.0, h.1.0)
@@ -126,7 +126,7 @@ first_of : {A : Type 0} (xs : List A) → 0 < length xs → A
 first_of [] low = absurd (omega (arith, low))
 first_of (x ∷ xs) low = x
 
-then_as_due : {A : Type 0} (see : A → Seen) (image : Image) (second : List Event) (result : Result (Unit {0}) BootError) (old new : List A) (answer : Result (Unit {0}) BootError) → IsBootable image → length old ≡ image.regions
+then_as_due : {A : Type 0} (see : A → Seen) (image : Image) (second : List HostEvent) (result : Result (Unit {0}) BootError) (old new : List A) (answer : Result (Unit {0}) BootError) → IsBootable image → length old ≡ image.regions
     → Each see old (Stands (image_state image) (fresh_numbers image)) → Each see old Tells
     → MatchResult answer (λ _. (mid : List A) × ChangesOne see (region_of image.ghcb.0) (Shares image.ghcb.0) old mid × GoesAll see image.vmpl.0 (buffer_of image.ghcb.0) (image_batches image) blank_page second result mid new) (λ error. (second ≡ []) × ((result ≡ Err error) × MayShare see image.ghcb.0 old new))
     → MatchResult answer (λ _. BatchesEnd (buffer_of image.ghcb.0) (image_batches image) (image_faults image) blank_page second result) (λ error. (second ≡ []) × (result ≡ Err error))
@@ -139,8 +139,8 @@ then_as_due see image second result old new (Ok done) able count stand tells h =
     let within = boot_within image (length h.0) (image_batches image) able (h.1.count ∙ count) refl in
     batches_due see image.vmpl.0 (buffer_of image.ghcb.0) (image_batches image) blank_page second result h.0 new (shared_state image) (fresh_numbers image) (first_of old some) shared told (nested (length h.0) (image_batches image) within) h.2
 
-pub boot_as_due : {A : Type 0} (see : A → Seen) (image : Image) (events : List Event) (result : Result (Unit {0}) BootError) (old new : List A) → IsBootable image → length old ≡ image.regions
-    → Each see old (Stands (image_state image) (fresh_numbers image)) → GoesBoot see image.ghcb.0 image.vmpl.0 (image_batches image) blank_page events result old new → Each see old Tells → SaidAsDue image events result
+pub boot_as_due : {A : Type 0} (see : A → Seen) (image : Image) (events : List HostEvent) (result : Result (Unit {0}) BootError) (old new : List A) → IsBootable image → length old ≡ image.regions
+    → Each see old (Stands (image_state image) (fresh_numbers image)) → GoesBoot see image.announce image.ghcb.0 image.vmpl.0 (image_batches image) blank_page events result old new → Each see old Tells → SaidAsDue image events result
 boot_as_due see image events result old new able count stand h tells = inr (record {
   first = h.first;
   second = h.second;

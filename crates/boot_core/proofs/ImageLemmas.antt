@@ -9,10 +9,10 @@ use Rattle.svsm_types.specs.declared.platform.Size.{Size}
 use Rattle.svsm_steps.specs.Image.{image_state, accepted, booted, booted_numbers, accept_entries}
 use Rattle.region_core.specs.Accepts.{Shares}
 use Rattle.region_core.specs.Stands.{Seen, Each, Stands, fresh_numbers}
-use Rattle.psc_batch.specs.Host.{Event}
+use Rattle.psc_batch.specs.Host.{HostEvent}
 use Rattle.psc_batch.specs.Entries.{entry_words, IsLow}
 use Rattle.boot_core.specs.declared.error.BootError.{BootError}
-use Rattle.boot_core.specs.Entries.{decoded, image_batches}
+use Rattle.boot_core.specs.Entries.{decoded_entry, image_batches}
 use Rattle.boot_core.specs.Regions.{ChangesOne, TellsStill}
 use Rattle.boot_core.specs.Goes.{GoesAll, MayShare, GoesBoot}
 use Rattle.boot_core.specs.Faults.{numbers_by, shared_state}
@@ -42,30 +42,30 @@ blank_is : (page : List ℕ) → page ≡ replicate 4096 0 → page ≡ blank_pa
 unfolding blank_page
 blank_is page e = e
 
-pub of_image : {A : Type 0} (see : A → Seen) (image : Image) (batches : List (List ℕ)) (page : List ℕ) (events : List Event) (result : Result (Unit {0}) BootError) (old new : List A) → page ≡ replicate 4096 0 → batches ≡ image_batches image → GoesBoot see image.ghcb.0 image.vmpl.0 batches page events result old new → GoesBoot see image.ghcb.0 image.vmpl.0 (image_batches image) blank_page events result old new
+pub of_image : {A : Type 0} (see : A → Seen) (image : Image) (batches : List (List ℕ)) (page : List ℕ) (events : List HostEvent) (result : Result (Unit {0}) BootError) (old new : List A) → page ≡ replicate 4096 0 → batches ≡ image_batches image → GoesBoot see image.announce image.ghcb.0 image.vmpl.0 batches page events result old new → GoesBoot see image.announce image.ghcb.0 image.vmpl.0 (image_batches image) blank_page events result old new
 of_image see image batches page events result old new blank is h =
-    subst (λ bs. GoesBoot see image.ghcb.0 image.vmpl.0 bs blank_page events result old new) is
-    (subst (λ p. GoesBoot see image.ghcb.0 image.vmpl.0 batches p events result old new) (blank_is page blank) h)
+    subst (λ bs. GoesBoot see image.announce image.ghcb.0 image.vmpl.0 bs blank_page events result old new) is
+    (subst (λ p. GoesBoot see image.announce image.ghcb.0 image.vmpl.0 batches p events result old new) (blank_is page blank) h)
 
 low_entries : (image : Image) → IsBootable image → AllByRecursion (λ (entry : ℕ × Size). entry.0 < 2 ^ 40) (accept_entries image)
 low_entries image able = recursion_from_All (λ (entry : ℕ × Size). entry.0 < 2 ^ 40) (accept_entries image) (λ k d within.
     let page : (get_or (accept_entries image) k d).0 < 512 * image.regions = able.entries k d within in
     omega (arith, able.regions, page))
 
-pub entries_again : (image : Image) → IsBootable image → flat_map (λ batch. map decoded batch) (image_batches image) ≡ accept_entries image
+pub entries_again : (image : Image) → IsBootable image → flat_map (λ batch. map decoded_entry batch) (image_batches image) ≡ accept_entries image
 entries_again image able = all_batches (entry_words image.accepts) ∙ decoded_words (accept_entries image) (low_entries image able)
 
 pub nested : (count : ℕ) (batches : List (List ℕ)) → All (λ batch. All (IsIn count) batch) batches → AllByRecursion (λ batch. AllByRecursion (IsWithin count) batch) batches
 nested count batches all = recursion_from_All (λ batch. AllByRecursion (IsWithin count) batch) batches (λ k d within. recursion_from_All (IsIn count) (get_or batches k d) (all k d within))
 
-after_asks : {A : Type 0} (see : A → Seen) (image : Image) (second : List Event) (old new : List A) (answer : Result (Unit {0}) BootError)
+after_asks : {A : Type 0} (see : A → Seen) (image : Image) (second : List HostEvent) (old new : List A) (answer : Result (Unit {0}) BootError)
     → MatchResult answer (λ _. (mid : List A) × ChangesOne see (region_of image.ghcb.0) (Shares image.ghcb.0) old mid × GoesAll see image.vmpl.0 (buffer_of image.ghcb.0) (image_batches image) blank_page second (Ok tt) mid new) (λ error. (second ≡ []) × ((the_ok ≡ Err error) × MayShare see image.ghcb.0 old new))
     → (mid : List A) × ChangesOne see (region_of image.ghcb.0) (Shares image.ghcb.0) old mid × GoesAll see image.vmpl.0 (buffer_of image.ghcb.0) (image_batches image) blank_page second (Ok tt) mid new
 after_asks see image second old new (Ok done) h = h
 after_asks see image second old new (Err error) h = cc (h.1.0)
 
-pub boot_stands : {A : Type 0} (see : A → Seen) (image : Image) (events : List Event) (result : Result (Unit {0}) BootError) (old new : List A) → IsBootable image → length old ≡ image.regions
-    → Each see old (Stands (image_state image) (fresh_numbers image)) → GoesBoot see image.ghcb.0 image.vmpl.0 (image_batches image) blank_page events result old new
+pub boot_stands : {A : Type 0} (see : A → Seen) (image : Image) (events : List HostEvent) (result : Result (Unit {0}) BootError) (old new : List A) → IsBootable image → length old ≡ image.regions
+    → Each see old (Stands (image_state image) (fresh_numbers image)) → GoesBoot see image.announce image.ghcb.0 image.vmpl.0 (image_batches image) blank_page events result old new
     → OnOk result (Each see new (Stands (booted image) (booted_numbers image)))
 boot_stands see image events (Err error) old new able count stand h = tt
 boot_stands see image events (Ok done) old new able count stand h =
@@ -77,8 +77,8 @@ boot_stands see image events (Ok done) old new able count stand h =
     with_numbers see (booted image) (counted_numbers image) (booted_numbers image) new (numbers_are image able.few)
     (subst (λ (entries : List (ℕ × Size)). Each see new (Stands (accepted image.vmpl.0 entries (shared_state image)) (numbers_by image.vmpl.0 entries (fresh_numbers image)))) (entries_again image able) here)
 
-pub boot_tells : {A : Type 0} (see : A → Seen) (image : Image) (events : List Event) (result : Result (Unit {0}) BootError) (old new : List A)
-    → GoesBoot see image.ghcb.0 image.vmpl.0 (image_batches image) blank_page events result old new → OnOk result (TellsStill see old new)
+pub boot_tells : {A : Type 0} (see : A → Seen) (image : Image) (events : List HostEvent) (result : Result (Unit {0}) BootError) (old new : List A)
+    → GoesBoot see image.announce image.ghcb.0 image.vmpl.0 (image_batches image) blank_page events result old new → OnOk result (TellsStill see old new)
 boot_tells see image events (Err error) old new h = tt
 boot_tells see image events (Ok done) old new h =
     let after = after_asks see image h.second old new h.answer h.then in

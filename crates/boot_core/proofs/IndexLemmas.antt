@@ -5,12 +5,12 @@ use Rattle.svsm_types.specs.declared.image.HostLine.{HostLine}
 use Rattle.svsm_types.specs.declared.image.HostLine.TheVariants as Line
 use Rattle.ghcb_page.specs.Bytes.{with_u64}
 use Rattle.psc_batch.specs.Exchange.{end_of}
-use Rattle.boot_core.specs.Sim.{or_else, first_exit, changed_by, with_changes, index_and_error, with_answer, returned}
+use Rattle.boot_core.specs.Sim.{first_some, first_exit, changed_by, with_changes, index_and_error, with_answer, returned}
 use Rattle.boot_core.specs.Index.{speaks_of}
 
 exit_by : (b : Bool) (number other cur error : ℕ) (lines : List HostLine) → (other == number) ≡ b → first_exit number (filter (speaks_of number) lines) ≡ first_exit number lines
-    → first_exit number (cond b (Line.Exit other cur error ∷ filter (speaks_of number) lines) (filter (speaks_of number) lines)) ≡ or_else (cond b (Some (cur, error)) None) (first_exit number lines)
-exit_by true number other cur error lines e rest = ap (λ t. or_else (cond t (Some (cur, error)) None) (first_exit number (filter (speaks_of number) lines))) e
+    → first_exit number (cond b (Line.Exit other cur error ∷ filter (speaks_of number) lines) (filter (speaks_of number) lines)) ≡ first_some (cond b (Some (cur, error)) None) (first_exit number lines)
+exit_by true number other cur error lines e rest = ap (λ t. first_some (cond t (Some (cur, error)) None) (first_exit number (filter (speaks_of number) lines))) e
 exit_by false number other cur error lines e rest = rest
 
 other_exit : (b : Bool) (number other index word : ℕ) (lines : List HostLine) → first_exit number (filter (speaks_of number) lines) ≡ first_exit number lines
@@ -28,6 +28,7 @@ exit_of_kept number (Line.Pace word ∷ lines) = exit_of_kept number lines
 exit_of_kept number (Line.Exit other cur error ∷ lines) = exit_by (other == number) number other cur error lines refl (exit_of_kept number lines)
 exit_of_kept number (Line.Change other index word ∷ lines) = other_exit (other == number) number other index word lines (exit_of_kept number lines)
 exit_of_kept number (Line.Run core one got ∷ lines) = exit_of_kept number lines
+exit_of_kept number (Line.Ap one error ∷ lines) = exit_of_kept number lines
 
 change_by : (b : Bool) (number end other index word : ℕ) (lines : List HostLine) (page : List ℕ) → (other == number) ≡ b → with_changes number end (filter (speaks_of number) lines) page ≡ with_changes number end lines page
     → with_changes number end (cond b (Line.Change other index word ∷ filter (speaks_of number) lines) (filter (speaks_of number) lines)) page
@@ -52,6 +53,7 @@ changes_of_kept number end (Line.Pace word ∷ lines) page = changes_of_kept num
 changes_of_kept number end (Line.Exit other cur error ∷ lines) page = other_change (other == number) number end other cur error lines page (changes_of_kept number end lines page)
 changes_of_kept number end (Line.Change other index word ∷ lines) page = change_by (other == number) number end other index word lines page refl (changes_of_kept number end lines page)
 changes_of_kept number end (Line.Run core one got ∷ lines) page = changes_of_kept number end lines page
+changes_of_kept number end (Line.Ap one error ∷ lines) page = changes_of_kept number end lines page
 
 -- an exit by the lines that are kept for it
 pub returned_by_kept : (number : ℕ) (kept lines : List HostLine) (pace : Option ℕ) (page : List ℕ) → kept ≡ filter (speaks_of number) lines → returned kept pace number page ≡ returned lines pace number page

@@ -5,8 +5,8 @@ ghost use Rattle.svsm_steps.specs.Image.{image_state, booted, booted_numbers};
 ghost use Rattle.svsm_steps.specs.Sound.{IsSound};
 ghost use Rattle.region_core.specs.Accepts.{Shares};
 ghost use Rattle.region_core.specs.Stands.{seen, Each, IsPlaced, Stands, Tells, fresh_numbers};
-ghost use Rattle.psc_batch.specs.Host.{Event, Leads};
-ghost use Rattle.boot_core.specs.Entries.{decoded};
+ghost use Rattle.psc_batch.specs.Host.{HostEvent, Leads};
+ghost use Rattle.boot_core.specs.Entries.{decoded_entry};
 ghost use Rattle.boot_core.specs.Regions.{ChangesOne, CountsBy, TellsStill};
 ghost use Rattle.boot_core.specs.Goes.{GoesBoot};
 ghost use Rattle.boot_core.specs.Boots.{SaidBy, SaidAsDue, BootEnds, BootEndsInOneWay};
@@ -36,23 +36,24 @@ fn share<R: Scene>(regions: &mut [Region<R>], page: Page)
 fn run<H: Host, R: Scene>(
     host: &mut H,
     regions: &mut [Region<R>],
+    announce: bool,
     ghcb: Page,
     vmpl: Vmpl,
     page: &mut GhcbPage,
     batches: &mut [Batch],
 ) -> Result<(), BootError>
-    requires within { All (λ batch. All (λ word. region_of (decoded word).0 < length regions.old) batch) batches.old }
+    requires within { All (λ batch. All (λ word. region_of (decoded_entry word).0 < length regions.old) batch) batches.old }
     requires ghcb { region_of ghcb.0 < length regions.old }
     requires low { ghcb.0 < 2 ^ 40 }
     requires placed { Each (λ r. seen (R.known r.scene) r.owners) regions.old IsPlaced }
-    ensures { (events : List Event) × Leads H.answers H.returns host.old events host.new
-        × GoesBoot (λ r. seen (R.known r.scene) r.owners) ghcb.0 vmpl.0 batches.old page.old events result regions.old regions.new }
+    ensures { (events : List HostEvent) × Leads H.answers H.returns host.old events host.new
+        × GoesBoot (λ r. seen (R.known r.scene) r.owners) announce ghcb.0 vmpl.0 batches.old page.old events result regions.old regions.new }
 {
-    if let Err(error) = ask_first(host, ghcb) {
+    if let Err(error) = ask_first(host, announce, ghcb) {
         return Err(error);
     }
     share(regions, ghcb);
-    if let Err(error) = ask_last(host, ghcb) {
+    if let Err(error) = ask_last(host, announce, ghcb) {
         return Err(error);
     }
     let buffer = Gpa(ghcb.0 * 0x1000 + 0x800);
@@ -72,12 +73,12 @@ pub fn boot<H: Host, R: Scene>(
     requires stand { Each (λ r. seen (R.known r.scene) r.owners) regions.old (Stands (image_state image.now) (fresh_numbers image.now)) }
 
     // What was said is the boot sequence up to the first refusal or fault, and it ends so.
-    ensures said { (events : List Event) × Leads H.answers H.returns host.old events host.new × SaidBy image.now events result }
+    ensures said { (events : List HostEvent) × Leads H.answers H.returns host.old events host.new × SaidBy image.now events result }
     ensures counts { CountsBy (λ r. seen (R.known r.scene) r.owners) regions.old regions.new result }
 
     // Where all platforms tell the numbers of their operations, faults come just where they are due.
     ensures due { Each (λ r. seen (R.known r.scene) r.owners) regions.old Tells
-        → (events : List Event) × Leads H.answers H.returns host.old events host.new × SaidAsDue image.now events result }
+        → (events : List HostEvent) × Leads H.answers H.returns host.old events host.new × SaidAsDue image.now events result }
 
     ensures booted { OnOk result (
         Each (λ r. seen (R.known r.scene) r.owners) regions.new (Stands (booted image.now) (booted_numbers image.now))) }
@@ -88,6 +89,7 @@ pub fn boot<H: Host, R: Scene>(
     run(
         host,
         regions,
+        image.announce,
         image.ghcb,
         image.vmpl,
         &mut page,

@@ -1,7 +1,8 @@
 -- The words of a run, met one after another.
 use Rattle.std.proofs.Common.{◌≡◌, ℕ, ◌+◌, Bool, true, false, not, cond, List, [], ◌∷◌, ◌++◌, refl, sym, ◌∙◌, ap, subst, length, arith, ◌<◌, get_or, map, drop, drop-cons, add-one, ◌||◌, ◌&&◌, codes}
 use Rattle.std.specs.Prelude.{bytes_eq, is_some, nat_le, Option, Some}
-use Rattle.command_words.specs.Words.{Text, is_flag, is_end, flags, others, brief_in, run_of}
+use Rattle.command_words.specs.Words.{Text, is_flag, is_end, flags, others, brief_in, run_of, save_of}
+use Rattle.command_words.specs.Scan.{are_plain}
 use Rattle.command_words.proofs.RowLemmas.{same_text}
 
 -- the next word and what follows it
@@ -94,22 +95,22 @@ other_met all rest word false false names t is end flag =
     let met : flags all ≡ word ∷ flags rest = t.flags_are ∙ flags_by false true word rest end (not_false (is_flag word) is) in
     ap (λ (fs : List Text). is_some (run_of (brief_in fs) (others all))) met ∙ other_flag word (flags rest) (others all) flag
 
-within : (brief : Bool) (os : List Text) → is_some (run_of (Some brief) os) ≡ (nat_le 2 (length os) && nat_le (length os) 17)
+within : (brief : Bool) (os : List Text) → is_some (run_of (Some brief) os) ≡ (nat_le 2 (length os) && nat_le (length os) 65)
 within brief [] = refl
 within brief (image ∷ []) = refl
-within brief (image ∷ script ∷ scripts) = by (nat_le (length scripts) 15) refl
+within brief (image ∷ script ∷ scripts) = by (nat_le (length scripts) 63) refl
   where
-    by : (b : Bool) → nat_le (length scripts) 15 ≡ b → is_some (run_of (Some brief) (image ∷ script ∷ scripts)) ≡ (nat_le 2 (length (image ∷ script ∷ scripts)) && nat_le (length (image ∷ script ∷ scripts)) 17)
+    by : (b : Bool) → nat_le (length scripts) 63 ≡ b → is_some (run_of (Some brief) (image ∷ script ∷ scripts)) ≡ (nat_le 2 (length (image ∷ script ∷ scripts)) && nat_le (length (image ∷ script ∷ scripts)) 65)
     by true is = simp is (grind (arith, is))
     by false is = simp is (grind (arith, is))
 
 -- all words were met
 pub all_met : (all : List Text) (ended brief : Bool) (names : ℕ) → Tally all [] ended brief names
-    → (nat_le 2 names && nat_le names 17) ≡ is_some (run_of (brief_in (flags all)) (others all))
+    → (nat_le 2 names && nat_le names 65) ≡ is_some (run_of (brief_in (flags all)) (others all))
 all_met all ended brief names t =
     let flags_are : brief_in (flags all) ≡ Some brief = by_flags ended brief (flags all) t.flags_are in
     let count : length (others all) ≡ names = by_names ended t.names_are in
-    sym (ap (λ (b : Option Bool). is_some (run_of b (others all))) flags_are ∙ within brief (others all) ∙ ap (λ (n : ℕ). nat_le 2 n && nat_le n 17) count)
+    sym (ap (λ (b : Option Bool). is_some (run_of b (others all))) flags_are ∙ within brief (others all) ∙ ap (λ (n : ℕ). nat_le 2 n && nat_le n 65) count)
   where
     by_flags : (e b : Bool) (fs : List Text) → fs ≡ cond b one_brief [] ++ cond e [] [] → brief_in fs ≡ Some b
     by_flags true true fs is = ap brief_in is
@@ -124,3 +125,38 @@ all_met all ended brief names t =
 pub tally_at : {all rest : List Text} {e e' b b' : Bool} {n n' : ℕ} → e' ≡ e → b' ≡ b → n' ≡ n → Tally all rest e b n → Tally all rest e' b' n'
 tally_at {all} {rest} {e} {e'} {b} {b'} {n} {n'} es bs ns t =
     subst (λ (x : Bool). Tally all rest x b' n') (sym es) (subst (λ (x : Bool). Tally all rest e x n') (sym bs) (subst (λ (x : ℕ). Tally all rest e b x) (sym ns) t))
+
+-- WORDS OF A COMMAND WITHOUT FLAGS
+
+-- a flag
+pub flag_met : (least most : ℕ) (all rest : List Text) (word : Text) (ended : Bool) (names : ℕ) → Tally all (word ∷ rest) ended false names
+    → (ended || not (is_flag word)) ≡ false → is_end word ≡ false → are_plain least most (flags all) (others all) ≡ false
+flag_met least most all rest word true names t is end = absurd cc
+flag_met least most all rest word false names t is end =
+    let met : flags all ≡ word ∷ flags rest = t.flags_are ∙ flags_by false true word rest end (not_false (is_flag word) is) in
+    ap (λ (fs : List Text). are_plain least most fs (others all)) met
+
+-- all words were met
+pub plain_met : (least most : ℕ) (all : List Text) (ended : Bool) (names : ℕ) → Tally all [] ended false names
+    → (nat_le least names && nat_le names most) ≡ are_plain least most (flags all) (others all)
+plain_met least most all ended names t =
+    sym (ap (λ (fs : List Text). are_plain least most fs (others all)) (no_flag ended (flags all) t.flags_are) ∙ ap (λ (n : ℕ). nat_le least n && nat_le n most) (by_names ended t.names_are))
+  where
+    no_flag : (e : Bool) (fs : List Text) → fs ≡ cond e [] [] → fs ≡ []
+    no_flag true fs is = is
+    no_flag false fs is = is
+
+    by_names : (e : Bool) → length (others all) ≡ names + cond e 0 0 → length (others all) ≡ names
+    by_names true is = omega (arith, is)
+    by_names false is = omega (arith, is)
+
+-- a save has two names or more
+pub save_within : (fs os : List Text) → are_plain 2 65 fs os ≡ is_some (save_of fs os)
+save_within (flag ∷ fs) os = refl
+save_within [] [] = refl
+save_within [] (image ∷ []) = refl
+save_within [] (image ∷ script ∷ scripts) = by (nat_le (length scripts) 63) refl
+  where
+    by : (b : Bool) → nat_le (length scripts) 63 ≡ b → are_plain 2 65 [] (image ∷ script ∷ scripts) ≡ is_some (save_of [] (image ∷ script ∷ scripts))
+    by true is = simp is (grind (arith, is))
+    by false is = simp is (grind (arith, is))

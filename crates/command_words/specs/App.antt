@@ -1,6 +1,6 @@
 -- The commands as `clap` sees them.
 use Rattle.std.specs.Prelude.{[], ◌∷◌, true, Some, codes}
-use Rattle.clap.specs.Walk.{Rule}
+use Rattle.clap.specs.Walk.{Rule, Text}
 use Rattle.clap.specs.Simple.{App, Shape, new_rule, new_shape, with_subcommand}
 use Rattle.clap.specs.declared.builder.action.ArgAction.TheVariants.{Set, Append, SetTrue}
 
@@ -16,12 +16,16 @@ scripts_rule = record (new_rule (codes "scripts")) { required = true; action = S
 abbrev pub run_shape : Shape
 run_shape = record (new_shape (codes "run")) { rules = brief_rule ∷ image_rule ∷ scripts_rule ∷ [] }
 
-abbrev pub numbers_rule : Rule
-numbers_rule = record (new_rule (codes "numbers")) { required = true; action = Some Append }
+abbrev pub words_rule : Rule
+words_rule = record (new_rule (codes "words")) { required = true; action = Some Append }
 
-abbrev pub gen_shape : Shape
-gen_shape = record (new_shape (codes "gen")) { rules = numbers_rule ∷ [] }
+-- a command without flags
+abbrev pub plain_shape : Text → Shape
+plain_shape name = record (new_shape name) { rules = words_rule ∷ [] }
+
+abbrev pub top_app : App
+top_app = record { top = record (new_shape (codes "svsm_run")) { no_binary_name = true }; subs = [] }
 
 abbrev pub words_app : App
 words_app =
-    with_subcommand (with_subcommand (record { top = record (new_shape (codes "svsm_run")) { no_binary_name = true }; subs = [] }) run_shape) gen_shape
+    with_subcommand (with_subcommand (with_subcommand top_app run_shape) (plain_shape (codes "gen"))) (plain_shape (codes "save"))

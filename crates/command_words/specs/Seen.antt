@@ -2,9 +2,10 @@
 use Rattle.std.specs.Prelude.{map, Option, Some, None}
 use Rattle.command_words.specs.declared.asked.RunWords.{RunWords}
 use Rattle.command_words.specs.declared.asked.GenWords.{GenWords}
+use Rattle.command_words.specs.declared.asked.SaveWords.{SaveWords}
 use Rattle.command_words.specs.declared.asked.Command.{Command}
 use Rattle.command_words.specs.declared.asked.Command.TheVariants as commands
-use Rattle.command_words.specs.Words.{Run}
+use Rattle.command_words.specs.Words.{Run, Save}
 
 abbrev pub run_seen : RunWords → Run
 run_seen run = record { brief = run.brief; image = run.image.now; scripts = map (λ name. name.now) run.scripts.items }
@@ -13,6 +14,14 @@ run_seen run = record { brief = run.brief; image = run.image.now; scripts = map 
 abbrev pub run_asked : Option Command → Option Run
 run_asked (Some (commands.Run run)) = Some (run_seen run)
 run_asked _ = None
+
+abbrev pub save_seen : SaveWords → Save
+save_seen save = record { image = save.image.now; scripts = map (λ name. name.now) save.scripts.items }
+
+-- the run that is to be saved, if it is one
+abbrev pub save_asked : Option Command → Option Save
+save_asked (Some (commands.Save save)) = Some (save_seen save)
+save_asked _ = None
 
 -- the generated scripts that are asked for, if it is they
 abbrev pub gen_asked : Option Command → Option GenWords

@@ -1,8 +1,9 @@
 -- The words of a command line, without the program's name.
-use Rattle.std.specs.Prelude.{ℕ, ◌+◌, ◌*◌, ◌-◌, ◌^◌, List, [], ◌∷◌, Bool, true, false, ◌==◌, nat_le, ◌&&◌, if◌then◌else◌, length, Option, Some, None, bytes_eq, codes, fold}
+use Rattle.std.specs.Prelude.{ℕ, ◌+◌, ◌*◌, ◌-◌, ◌^◌, List, [], ◌∷◌, Bool, true, false, ◌==◌, nat_le, ◌&&◌, if◌then◌else◌, length, Option, Some, None, IsSome, ◌⊎◌, bytes_eq, codes, fold}
 use Rattle.std.specs.List.{list_all}
 use Rattle.command_words.specs.declared.asked.GenWords.{GenWords}
 
+-- the bytes of a word of the command line
 abbrev pub Text : Type 0
 Text = List ℕ
 
@@ -25,6 +26,11 @@ abbrev pub others : List Text → List Text
 others [] = []
 others (word ∷ words) = if is_end word then words else if is_flag word then others words else word ∷ others words
 
+-- what is asked for by a command of this name, by the form of its flags and its other words
+abbrev pub command_by : {A : Type 0} → Text → (List Text → List Text → Option A) → List Text → Option A
+command_by name form [] = None
+command_by name form (word ∷ words) = if bytes_eq word name then form (flags words) (others words) else None
+
 -- A RUN
 
 -- a run: whether the report is brief, the name of the image, and the names of the scripts
@@ -39,15 +45,15 @@ brief_in [] = Some false
 brief_in (flag ∷ []) = if bytes_eq flag (codes "--brief") then Some true else None
 brief_in _ = None
 
--- an image and 1 to 16 scripts
+-- an image and 1 to 64 scripts
 abbrev pub run_of : Option Bool → List Text → Option Run
 run_of (Some brief) (image ∷ (script ∷ scripts)) =
-    if nat_le (length scripts) 15 then Some (record { brief = brief; image = image; scripts = script ∷ scripts }) else None
+    if nat_le (length scripts) 63 then Some (record { brief = brief; image = image; scripts = script ∷ scripts }) else None
 run_of _ _ = None
 
+-- the words of `run`
 abbrev pub run_in : List Text → Option Run
-run_in [] = None
-run_in (word ∷ words) = if bytes_eq word (codes "run") then run_of (brief_in (flags words)) (others words) else None
+run_in = command_by (codes "run") (λ flags others. run_of (brief_in flags) others)
 
 -- GENERATED SCRIPTS
 
@@ -77,6 +83,36 @@ gen_of [] (cores ∷ (requests ∷ (number ∷ []))) =
     gen_with (between 1 16 (value_of cores)) (between 1 128 (value_of requests)) (between 0 (2 ^ 64 - 1) (value_of number))
 gen_of _ _ = None
 
+-- the words of `gen`
 abbrev pub gen_in : List Text → Option GenWords
-gen_in [] = None
-gen_in (word ∷ words) = if bytes_eq word (codes "gen") then gen_of (flags words) (others words) else None
+gen_in = command_by (codes "gen") gen_of
+
+-- A SAVED MACHINE
+
+-- the names of the image and the scripts of the run that is saved
+pub record Save : Type 0 where
+  pub image : Text
+  pub scripts : List Text
+
+-- no flag, an image and 1 to 64 scripts
+abbrev pub save_of : List Text → List Text → Option Save
+save_of [] (image ∷ (script ∷ scripts)) = if nat_le (length scripts) 63 then Some (record { image = image; scripts = script ∷ scripts }) else None
+save_of _ _ = None
+
+-- the words of `save`
+abbrev pub save_in : List Text → Option Save
+save_in = command_by (codes "save") save_of
+
+-- WORDS OF A FORM
+
+-- words of a command without flags
+abbrev pub IsPlain : List Text → Type 0
+IsPlain words = IsSome (gen_in words) ⊎ IsSome (save_in words)
+
+abbrev pub IsOfForm : List Text → Type 0
+IsOfForm words = IsSome (run_in words) ⊎ IsPlain words
+
+-- the words of a command without flags, but for its name and the first `--`
+abbrev pub plain_words : List Text → List Text
+plain_words [] = []
+plain_words (word ∷ words) = others words

@@ -1,7 +1,7 @@
 //! Which words are a command.
 ghost use Rattle.std.specs.Prelude.{◌≡◌, map, string_bytes, is_some, not, ◌||◌, ◌&&◌, bytes_eq, codes};
-ghost use Rattle.command_words.specs.Words.{is_flag, is_end, run_in, run_of, brief_in, flags, others, gen_in, gen_of};
-ghost use Rattle.command_words.specs.Scan.{is_number_at};
+ghost use Rattle.command_words.specs.Words.{is_flag, is_end, run_in, run_of, brief_in, flags, others, gen_in, gen_of, save_in};
+ghost use Rattle.command_words.specs.Scan.{is_number_at, are_plain};
 
 use crate::decimal::{number_between, number_of};
 
@@ -53,7 +53,7 @@ fn are_of_run(words: &[String]) -> bool
             return false;
         }
     }
-    (2..=17).contains(&names)
+    (2..=65).contains(&names)
 }
 
 /// Whether the words ask for a run.
@@ -99,6 +99,35 @@ fn are_of_gen(words: &[String]) -> bool
         }
     }
     numbers == 3
+}
+
+// Whether the words after a name are no flags, and so many others.
+fn are_plain(words: &[String], least: usize, most: usize) -> bool
+    ensures { result ≡ are_plain least most (flags (map string_bytes words.now)) (others (map string_bytes words.now)) }
+{
+    let mut ended = false;
+    let mut names: usize = 0;
+    for word in words {
+        let text = word.as_str();
+        if is_name(ended, text) {
+            names += 1;
+        } else if is_end(text) {
+            ended = true;
+        } else {
+            return false;
+        }
+    }
+    least <= names && names <= most
+}
+
+/// Whether the words ask for a run to be saved.
+pub fn is_save(words: &[String]) -> bool
+    ensures { result ≡ is_some (save_in (map string_bytes words.now)) }
+{
+    match words {
+        [word, rest @ ..] if word.as_str() == "save" => are_plain(rest, 2, 65),
+        _ => false,
+    }
 }
 
 /// Whether the words ask for generated scripts.

@@ -19,9 +19,17 @@ pub struct GenWords {
     pub number: u64,
 }
 
+/// A run whose last state is to be saved, as the words ask for it.
+#[derive(Debug, Drop)]
+pub struct SaveWords<'a> {
+    pub image: &'a str,
+    pub scripts: Vec<&'a str>,
+}
+
 /// A command, as the words ask for it.
 #[derive(Debug, Drop)]
 pub enum Command<'a> {
     Run(RunWords<'a>),
     Gen(GenWords),
+    Save(SaveWords<'a>),
 }

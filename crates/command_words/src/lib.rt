@@ -6,7 +6,7 @@ mod asked;
 mod decimal;
 mod taken;
 
-pub use asked::{Command, GenWords, RunWords};
+pub use asked::{Command, GenWords, RunWords, SaveWords};
 pub use taken::command_of;
 
 #[cfg(test)]

@@ -1,12 +1,12 @@
 //! The words, taken apart.
-ghost use Rattle.std.specs.Prelude.{◌≡◌, ◌⊎◌, IfOk, OnErr, IsSome, Some, map, option_map, string_bytes};
+ghost use Rattle.std.specs.Prelude.{◌≡◌, IfOk, OnErr, IsSome, Some, map, option_map, string_bytes};
 ghost use Rattle.clap.specs.Words.{app_of, with_subcommand, HasMatchesOf};
-ghost use Rattle.command_words.specs.App.{run_shape, gen_shape, words_app};
-ghost use Rattle.command_words.specs.Words.{run_in, gen_in};
-ghost use Rattle.command_words.specs.Seen.{run_seen, run_asked, gen_asked};
+ghost use Rattle.command_words.specs.App.{run_shape, plain_shape, words_app};
+ghost use Rattle.command_words.specs.Words.{run_in, gen_in, save_in, IsPlain, IsOfForm, plain_words};
+ghost use Rattle.command_words.specs.Seen.{run_seen, run_asked, gen_asked, save_seen, save_asked};
 
-use crate::admitted::{is_gen, is_run};
-use crate::asked::{Command, GenWords, RunWords};
+use crate::admitted::{is_gen, is_run, is_save};
+use crate::asked::{Command, GenWords, RunWords, SaveWords};
 use crate::decimal::numbers_of;
 use clap::error::ErrorKind;
 use clap::{Arg, ArgAction, ArgMatches, Command as App};
@@ -30,28 +30,30 @@ fn with_run<'a>(alloc: Global, top: App<'a>) -> Result<App<'a>, AllocError>
     top.subcommand(run)
 }
 
-// With the command of generated scripts.
-fn with_gen<'a>(alloc: Global, top: App<'a>) -> Result<App<'a>, AllocError>
-    ensures { IfOk result (λ c. app_of c ≡ with_subcommand (app_of top.entry) gen_shape) }
+// With a command without flags.
+fn with_plain<'a>(alloc: Global, top: App<'a>, name: &'a str) -> Result<App<'a>, AllocError>
+    ensures { IfOk result (λ c. app_of c ≡ with_subcommand (app_of top.entry) (plain_shape name.entry.now)) }
 {
-    let numbers = Arg::new(alloc, "numbers")
+    let words = Arg::new(alloc, "words")
         .required(true)
         .action(ArgAction::Append);
-    let generated = App::new(alloc, "gen").arg(numbers)?;
-    top.subcommand(generated)
+    let plain = App::new(alloc, name).arg(words)?;
+    top.subcommand(plain)
 }
 
-// Both commands.
+// All commands.
 fn command<'a>(alloc: Global) -> Result<App<'a>, AllocError>
     ensures { IfOk result (λ c. app_of c ≡ words_app) }
 {
     let top = App::new(alloc, "svsm_run").no_binary_name(true);
-    with_gen(alloc, with_run(alloc, top)?)
+    let run = with_run(alloc, top)?;
+    let generated = with_plain(alloc, run, "gen")?;
+    with_plain(alloc, generated, "save")
 }
 
 // The words, parsed. Words that are admitted are refused only for want of memory.
 fn parsed<'a>(alloc: Global, words: &'a [String]) -> Result<ArgMatches<'a>, NoMemory>
-    requires { IsSome (run_in (map string_bytes words.now)) ⊎ IsSome (gen_in (map string_bytes words.now)) }
+    requires { IsOfForm (map string_bytes words.now) }
     ensures { IfOk result (λ m. HasMatchesOf words_app (map string_bytes words.entry.now) m) }
 {
     match command(alloc)?.try_get_matches_from(words) {
@@ -87,35 +89,67 @@ fn run_of<'a>(alloc: Global, words: &'a [String]) -> Result<RunWords<'a>, NoMemo
     })
 }
 
-// The generated scripts that these words ask for.
-fn gen_of(alloc: Global, words: &[String]) -> Result<GenWords, NoMemory>
-    requires { IsSome (gen_in (map string_bytes words.now)) }
-    ensures { IfOk result (λ asked. gen_in (map string_bytes words.now) ≡ Some asked) }
+// The words of a command without flags, but for its name.
+fn plain_words<'a>(alloc: Global, words: &'a [String]) -> Result<Vec<&'a str>, NoMemory>
+    requires { IsPlain (map string_bytes words.now) }
+    ensures { IfOk result (λ plain. map (λ word. word.now) plain.items ≡ plain_words (map string_bytes words.entry.now)) }
 {
     let matches = parsed(alloc, words)?;
     let Some((_, found)) = matches.subcommand() else {
         unreachable!()
     };
-    let Some(numbers) = found.get_raw("numbers") else {
+    let Some(given) = found.get_raw("words") else {
         unreachable!()
     };
-    let Some(asked) = numbers_of(numbers) else {
+    let mut plain = Vec::new(alloc);
+    plain.extend_from_slice(given)?;
+    Ok(plain)
+}
+
+// The generated scripts that these words ask for.
+fn gen_of(alloc: Global, words: &[String]) -> Result<GenWords, NoMemory>
+    requires { IsSome (gen_in (map string_bytes words.now)) }
+    ensures { IfOk result (λ asked. gen_in (map string_bytes words.now) ≡ Some asked) }
+{
+    let plain = plain_words(alloc, words)?;
+    let Some(asked) = numbers_of(&plain) else {
         unreachable!()
     };
     Ok(asked)
+}
+
+// The run to be saved that these words ask for.
+fn save_of<'a>(alloc: Global, words: &'a [String]) -> Result<SaveWords<'a>, NoMemory>
+    requires { IsSome (save_in (map string_bytes words.now)) }
+    ensures { IfOk result (λ save. save_in (map string_bytes words.entry.now) ≡ Some (save_seen save)) }
+{
+    let plain = plain_words(alloc, words)?;
+    let Some((image, names)) = plain.split_first() else {
+        unreachable!()
+    };
+    let mut scripts = Vec::new(alloc);
+    scripts.extend_from_slice(names)?;
+    Ok(SaveWords {
+        image: *image,
+        scripts,
+    })
 }
 
 /// The command that the words ask for, where they are of a form. Only words that are can want memory.
 pub fn command_of<'a>(alloc: Global, words: &'a [String]) -> Result<Option<Command<'a>>, NoMemory>
     ensures run { IfOk result (λ command. run_asked command ≡ run_in (map string_bytes words.entry.now)) }
     ensures generated { IfOk result (λ command. gen_asked command ≡ gen_in (map string_bytes words.entry.now)) }
-    ensures memory { OnErr result (IsSome (run_in (map string_bytes words.entry.now)) ⊎ IsSome (gen_in (map string_bytes words.entry.now))) }
+    ensures save { IfOk result (λ command. save_asked command ≡ save_in (map string_bytes words.entry.now)) }
+    ensures memory { OnErr result (IsOfForm (map string_bytes words.entry.now)) }
 {
     if is_run(words) {
         return Ok(Some(Command::Run(run_of(alloc, words)?)));
     }
     if is_gen(words) {
         return Ok(Some(Command::Gen(gen_of(alloc, words)?)));
+    }
+    if is_save(words) {
+        return Ok(Some(Command::Save(save_of(alloc, words)?)));
     }
     Ok(None)
 }

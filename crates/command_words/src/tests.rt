@@ -48,15 +48,45 @@ fn an_empty_word_is_a_name(rt: HostRuntime) -> Result<(), Fail> {
     Ok(())
 }
 
+// These words, and so many names behind them.
+fn with_names(alloc: Global, line: &str, count: usize) -> Result<Vec<String>, Fail> {
+    let mut all = words(alloc, line)?;
+    for _ in 0..count {
+        all.push(String::from_str(alloc, "script")?)?;
+    }
+    Ok(all)
+}
+
 #[test]
-fn sixteen_scripts_are_taken_and_no_more(rt: HostRuntime) -> Result<(), Fail> {
+fn sixty_four_scripts_are_taken(rt: HostRuntime) -> Result<(), Fail> {
     let alloc = rt.alloc();
-    let most = words(alloc, "run image 1 2 3 4 5 6 7 8 9 10 11 12 13 14 15 16")?;
-    assert!(rt;
-        matches!(command_of(alloc, &most)?, Some(Command::Run(run)) if run.scripts.len() == 16)
-    );
-    let more = words(alloc, "run image 1 2 3 4 5 6 7 8 9 10 11 12 13 14 15 16 17")?;
-    assert!(rt; command_of(alloc, &more)?.is_none());
+    let given = with_names(alloc, "run image", 64)?;
+    let Some(Command::Run(run)) = command_of(alloc, &given)? else {
+        panic!(&rt; "the words ask for a run")
+    };
+    assert_eq!(rt; run.scripts.len(), 64);
+    Ok(())
+}
+
+#[test]
+fn sixty_five_scripts_are_refused(rt: HostRuntime) -> Result<(), Fail> {
+    let alloc = rt.alloc();
+    for line in ["run image", "save image"] {
+        let given = with_names(alloc, line, 65)?;
+        assert!(rt; command_of(alloc, &given)?.is_none());
+    }
+    Ok(())
+}
+
+#[test]
+fn a_save_has_an_image_and_scripts(rt: HostRuntime) -> Result<(), Fail> {
+    let alloc = rt.alloc();
+    let given = words(alloc, "save image  a")?;
+    let Some(Command::Save(save)) = command_of(alloc, &given)? else {
+        panic!(&rt; "the words ask for a save")
+    };
+    assert_eq!(rt; save.image, "image");
+    assert_eq!(rt; save.scripts.as_slice(), ["", "a"].as_slice());
     Ok(())
 }
 
@@ -78,6 +108,8 @@ fn other_words_are_refused(rt: HostRuntime) -> Result<(), Fail> {
         "-- run a b",
         "--brief run a b",
         "Run a b",
+        "save image",
+        "save image a --brief",
     ];
     for line in lines {
         let given = words(alloc, line)?;

@@ -63,6 +63,7 @@ fn world(alloc: Global, line: HostLine) -> Result<ScriptWorld, NoMemory> {
     let image = Image {
         regions: 2,
         vmpl: Vmpl(2),
+        second: None,
         features: 1,
         ghcb: Page(5),
         ranges: Sequence::new(alloc),
@@ -72,6 +73,9 @@ fn world(alloc: Global, line: HostLine) -> Result<ScriptWorld, NoMemory> {
         fills: Sequence::new(alloc),
         faults: Sequence::new(alloc),
         host,
+        split: false,
+        blocks: Sequence::new(alloc),
+        announce: false,
     };
     ScriptWorld::new(alloc, &image, 0)
 }
@@ -153,7 +157,7 @@ fn each_request_has_its_steps_and_its_outcome(rt: HostRuntime) -> Result<(), Fai
         Outcome::Done,
         Outcome::Done,
         Outcome::Done,
-        Outcome::Reply(regs(0, 0x100000001)),
+        Outcome::Reply(regs(0, 0x200000001)),
         Outcome::Reply(regs(0x80000000, 0x21000)),
         Outcome::Spurious,
     ];

@@ -1,6 +1,6 @@
 -- A pop: the block that goes, those that stay, and what is answered.
-use Rattle.std.proofs.Common.{◌≡◌, ◌+◌, ◌≤◌, List, [], ◌∷◌, ◌++◌, length, take, drop, refl, sym, ap, ◌∙◌, subst, Option, None, Some, arith}
-use Rattle.std.specs.Prelude.{replicate, MatchOption}
+use Rattle.std.proofs.Common.{◌≡◌, false, ◌+◌, ◌≤◌, List, [], ◌∷◌, ◌++◌, length, take, drop, refl, sym, ap, ◌∙◌, subst, Option, None, Some, arith}
+use Rattle.std.specs.Prelude.{replicate}
 use Rattle.std.specs.Option.{option_map_or}
 use Rattle.std.proofs.lemmas.List.{take-append-drop, length-append}
 use Rattle.std.proofs.Math.ListN.{length-take}
@@ -14,13 +14,8 @@ use Rattle.svsm_steps.specs.declared.answer.Answer.TheVariants as answers
 use Rattle.svsm_steps.specs.declared.step.Step.TheVariants.{PoolPop}
 use Rattle.deposit_pool.specs.Sizes.{count_of, other, TakesLast}
 use Rattle.deposit_pool.specs.PoolValue.{blocks_in}
-use Rattle.deposit_pool.specs.Popped.{popped_answer, TakesPage}
+use Rattle.deposit_pool.specs.Popped.{popped_answer, TakesPage, PopsAs}
 use Rattle.deposit_pool.proofs.BlockLemmas.{Pops, small_goes, large_goes, no_small, no_large, nothing_goes, count_append, count_other, count_one, count_else}
-
--- the block that goes, if there is one, and those that stay
-pub record PopsAs (size : Size) (old new : List Block) (page : Option Page) : Type 0 where
-  pub last : MatchOption page (last_block size old ≡ None) (λ (p : Page). last_block size old ≡ Some (record { page = p; size = size }))
-  pub rest : new ≡ without_last size old
 
 -- how often each size stands in sizes of which the last of one is taken
 pub count_was : (size : Size) (old new : List Size) (t : TakesLast size old new) → count_of size old ≡ count_of size t.front + 1
@@ -125,7 +120,7 @@ answer_some : (o : Option Block) (b : Block) (f : Block → Answer) (empty : Ans
 answer_some None b f empty h = cc
 answer_some (Some x) b f empty h = let e : x ≡ b = cc in ap f (sym e)
 
-pub pop_answers : (size : Size) (old new : List Block) (page : Option Page) → PopsAs size old new page → popped_answer page (length new) ≡ pool_answer old (PoolPop size)
+pub pop_answers : (size : Size) (old new : List Block) (page : Option Page) → PopsAs size old new page → popped_answer page (length new) ≡ pool_answer false old (PoolPop size)
 pop_answers size old new None h =
     ap (λ (blocks : List Block). answers.Empty (length blocks)) (h.rest ∙ nothing_goes size old h.last)
     ∙ answer_none (last_block size old) (λ (block : Block). answers.Block block.page (length (without_last size old))) (answers.Empty (length old)) h.last

@@ -1,8 +1,9 @@
 //! The pool.
-ghost use Rattle.std.specs.Prelude.{◌≡◌, ◌≤◌, ◌<◌, ◌+◌, ◌^◌, ◌++◌, ◌∷◌, [], length, OnOk, OnErr, MatchOption, None, Some, true, false, vec_len, vec_capacity};
+ghost use Rattle.std.specs.Prelude.{◌≡◌, ◌≤◌, ◌<◌, ◌+◌, ◌^◌, ◌++◌, ◌∷◌, [], length, map, IfOk, OnOk, OnErr, MatchOption, None, Some, true, false, vec_len, vec_capacity};
 ghost use Rattle.svsm_steps.specs.declared.step.Step.TheVariants.{PoolPush, PoolPop};
 ghost use Rattle.svsm_steps.specs.Pool.{last_block, pool_answer, pool_after};
 ghost use Rattle.deposit_pool.specs.Sizes.{count_of};
+ghost use Rattle.deposit_pool.specs.Pairs.{pair_of};
 ghost use Rattle.deposit_pool.specs.Popped.{popped_answer, TakesPage};
 
 use crate::order::Order;
@@ -73,7 +74,7 @@ impl Pool {
     {
         self.small.reserve(1)?;
         self.large.reserve(1)?;
-        self.order.reserve()?;
+        self.order.reserve(1)?;
         self.spare = true;
         Ok(())
     }
@@ -82,7 +83,7 @@ impl Pool {
     pub fn push(&mut self, page: Page, size: Size) -> u64
         requires { self.old.spare ≡ true }
         ensures held { result ≡ length self.old.blocks + 1 }
-        ensures after { self.new ≡ record { blocks = pool_after self.old.blocks (PoolPush page size); spare = false } }
+        ensures after { self.new ≡ record { blocks = pool_after false self.old.blocks (PoolPush page size); spare = false } }
     {
         self.order.push(size);
         match size {
@@ -97,8 +98,8 @@ impl Pool {
     pub fn pop(&mut self, size: Size) -> Option<Page>
         ensures page { MatchOption result (last_block size self.old.blocks ≡ None)
             (λ page. last_block size self.old.blocks ≡ Some (record { page = page; size = size })) }
-        ensures answer { popped_answer result (length self.new.blocks) ≡ pool_answer self.old.blocks (PoolPop size) }
-        ensures after { self.new ≡ record self.old { blocks = pool_after self.old.blocks (PoolPop size) } }
+        ensures answer { popped_answer result (length self.new.blocks) ≡ pool_answer false self.old.blocks (PoolPop size) }
+        ensures after { self.new ≡ record self.old { blocks = pool_after false self.old.blocks (PoolPop size) } }
     {
         match size {
             Size::Small => take_last(&mut self.small, &mut self.order, Size::Small),
@@ -111,5 +112,11 @@ impl Pool {
         ensures { result ≡ length self.now.blocks }
     {
         self.small.len() as u64 + self.large.len() as u64
+    }
+    /// The blocks, from the first that was pushed.
+    pub fn blocks(&self, alloc: Global) -> Result<Vec<(Page, Size)>, NoMemory>
+        ensures { IfOk result (λ blocks. blocks.items ≡ map pair_of self.now.blocks) }
+    {
+        self.order.lay_out(alloc, &self.small, &self.large)
     }
 }

@@ -10,9 +10,11 @@ with_bytes at new bytes = take at bytes ++ (new ++ drop (at + length new) bytes)
 abbrev pub with_u16 : ℕ → ℕ → List ℕ → List ℕ
 with_u16 at number bytes = with_bytes at (to_le_bytes w16 number) bytes
 
+-- bytes with a doubleword stored at an offset
 abbrev pub with_u32 : ℕ → ℕ → List ℕ → List ℕ
 with_u32 at number bytes = with_bytes at (to_le_bytes w32 number) bytes
 
+-- bytes with a quadword stored at an offset
 abbrev pub with_u64 : ℕ → ℕ → List ℕ → List ℕ
 with_u64 at number bytes = with_bytes at (to_le_bytes w64 number) bytes
 
@@ -20,5 +22,6 @@ with_u64 at number bytes = with_bytes at (to_le_bytes w64 number) bytes
 unfoldable pub u16_at : ℕ → List ℕ → ℕ
 u16_at at bytes = from_le_bytes w16 (take 2 (drop at bytes))
 
+-- the quadword at a byte offset, least byte first
 unfoldable pub u64_at : ℕ → List ℕ → ℕ
 u64_at at bytes = from_le_bytes w64 (take 8 (drop at bytes))

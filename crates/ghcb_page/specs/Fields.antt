@@ -29,6 +29,7 @@ with_exit valid code info1 info2 scratch bytes =
     with_u32 0xFFC 0 (with_u16 0xFFA 2 (with_bytes 0x3F0 valid
     (with_u64 0x3A8 scratch (with_u64 0x3A0 info2 (with_u64 0x398 info1 (with_u64 0x390 code bytes))))))
 
+-- the page as the module leaves it to the host for an exit
 abbrev pub begun_exit : ℕ → ℕ → ℕ → ℕ → List ℕ → List ℕ
 begun_exit code info1 info2 scratch bytes = with_exit exit_bitmap code info1 info2 scratch bytes
 
@@ -38,9 +39,11 @@ begun_ap rax info1 info2 bytes = with_u64 0x1F8 rax (with_exit ap_bitmap 0x80000
 
 -- WHAT AN EXIT GIVES BACK
 
+-- SW_EXITINFO1
 abbrev pub info1_of : List ℕ → ℕ
 info1_of bytes = u64_at 0x398 bytes
 
+-- SW_EXITINFO2
 abbrev pub info2_of : List ℕ → ℕ
 info2_of bytes = u64_at 0x3A0 bytes
 
@@ -48,6 +51,7 @@ info2_of bytes = u64_at 0x3A0 bytes
 abbrev pub says_nothing : ℕ → ℕ → Bool
 says_nothing info1 info2 = (info1 % 2 ^ 32 == 0) && (info2 == 0)
 
+-- the host tells of no error and of no event in the page
 abbrev pub is_quiet : List ℕ → Bool
 is_quiet bytes = says_nothing (info1_of bytes) (info2_of bytes)
 

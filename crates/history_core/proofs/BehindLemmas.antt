@@ -1,45 +1,59 @@
--- The logs of one history, put by ticket behind other entries.
+-- The logs of one history, by ticket.
 use Rattle.std.proofs.Common.{◌≡◌, ◌≢◌, ℕ, zero, suc, ◌+◌, ◌-◌, ◌^◌, ◌<◌, ◌≤◌, List, [], ◌∷◌, ◌++◌, length, get_or, set, take, drop, replicate, min, sym, refl, ap, ◌∙◌, subst, ⊎_elim, ◌⊎◌, inl, inr, arith, All}
 use mathlib.Core.Logic.{dite}
 use native.Mathlib.Decide.{ℕ_discrete}
 use Rattle.std.specs.declared.vec.Vec.{Vec}
 use Rattle.std.proofs.lemmas.Bool.{cases_lt}
 use Rattle.std.proofs.lemmas.Grind.{flat_map-append}
-use Rattle.std.proofs.lemmas.List.{append-nil, length-append, length-map, length-set, get_or-set_same, get_or-set_other, get_or_append_left, get_or-append-add, get_or-map, nil_from_length, same_lists, take_at, take_more, length-replicate}
+use Rattle.std.proofs.lemmas.List.{append-nil, length-append, length-map, length-set, map-set, get_or-set_same, get_or-set_other, get_or_append_left, get_or-append-add, get_or-map, nil_from_length, same_lists, take_at, take_more, length-replicate}
 use Rattle.std.proofs.lemmas.List.Concat.{get_or-flat_map}
 use Rattle.std.proofs.lemmas.List.Folds.{length-flat_map-take}
 use Rattle.svsm_steps.specs.declared.entry.Entry.{Entry}
+use Rattle.svsm_steps.specs.declared.step.Step.TheVariants.{Leave}
+use Rattle.svsm_steps.specs.declared.answer.Answer.TheVariants.{Denied}
 use Rattle.svsm_steps.specs.Histories.{HaveTicketsFrom}
 use Rattle.history_core.specs.Merged.{entries_in, IsRising, AreLogsOf}
-use Rattle.history_core.specs.Placed.{placed}
+use Rattle.history_core.specs.Marked.{marked, places_in}
 use Rattle.history_core.specs.Raised.{raise, raised}
 use Rattle.history_core.proofs.MergeLemmas.{Has, below_has, inside_history, all_more, has_all, all_has, rising_history, none_else, none_lost, logs_from}
 use Rattle.history_core.proofs.OnceLemmas.{whole_long}
 
--- ONE MORE
+-- THE ENTRIES BY TICKET
 
-pub placed-append : (n : ℕ) (xs ys all : List Entry) → placed n (xs ++ ys) all ≡ placed n ys (placed n xs all)
-placed-append n [] ys all = refl
-placed-append n (x ∷ xs) ys all = placed-append n xs ys (set all (n + x.ticket) (raise n x))
+-- the list after each of the entries, with its ticket raised by n, was put at the index of that ticket
+abbrev placed : ℕ → List Entry → List Entry → List Entry
+placed n [] all = all
+placed n (entry ∷ entries) all = placed n entries (set all (n + entry.ticket) (raise n entry))
+
+-- THE PLACES BY TICKET
+
+pub marked-append : (xs ys : List Entry) (order : List ℕ) → marked (xs ++ ys) order ≡ marked ys (marked xs order)
+marked-append [] ys order = refl
+marked-append (x ∷ xs) ys order = marked-append xs ys (set order x.ticket x.place)
+
+pub length-marked : (xs : List Entry) (order : List ℕ) → length (marked xs order) ≡ length order
+length-marked [] order = refl
+length-marked (x ∷ xs) order = length-marked xs (set order x.ticket x.place) ∙ length-set order x.ticket x.place
 
 -- one more entry of a log
-pub entry_placed : (n i : ℕ) (xs all now : List Entry) (d : Entry) → now ≡ placed n (take i xs) all → i < length xs
-    → set now (n + (get_or xs i d).ticket) (raise n (get_or xs i d)) ≡ placed n (take (i + 1) xs) all
-entry_placed n i xs all now d is low =
+pub entry_marked : (i : ℕ) (xs : List Entry) (order now : List ℕ) (d : Entry) → now ≡ marked (take i xs) order → i < length xs
+    → set now (get_or xs i d).ticket (get_or xs i d).place ≡ marked (take (i + 1) xs) order
+entry_marked i xs order now d is low =
     let x : Entry = get_or xs i d in
-    ap (λ (l : List Entry). set l (n + x.ticket) (raise n x)) is
-    ∙ (sym (placed-append n (take i xs) (x ∷ []) all) ∙ ap (λ (l : List Entry). placed n l all) (sym (take_more xs i d low)))
+    ap (λ (l : List ℕ). set l x.ticket x.place) is
+    ∙ (sym (marked-append (take i xs) (x ∷ []) order) ∙ ap (λ (l : List Entry). marked l order) (sym (take_more xs i d low)))
 
 module _ {A : Type 0} (ls : List (Vec Entry A)) (i : ℕ) (log : Vec Entry A) (low : i < length ls) (is : log ≡ get_or ls i log) where
   -- one more log
-  pub log_placed : (n : ℕ) (all now new : List Entry) → now ≡ placed n (entries_in (take i ls)) all → new ≡ placed n log.items now → new ≡ placed n (entries_in (take (i + 1) ls)) all
-  log_placed n all now new before put =
+  pub log_marked : (order now new : List ℕ) → now ≡ marked (entries_in (take i ls)) order → new ≡ marked log.items now
+      → new ≡ marked (entries_in (take (i + 1) ls)) order
+  log_marked order now new before put =
       let more : entries_in (take (i + 1) ls) ≡ entries_in (take i ls) ++ log.items =
       ap (λ (l : List (Vec Entry A)). entries_in l) (take_more ls i log low)
       ∙ (flat_map-append (λ (l : Vec Entry A). l.items) (take i ls) (get_or ls i log ∷ [])
       ∙ (ap (λ (l : List Entry). entries_in (take i ls) ++ l) (append-nil (get_or ls i log).items) ∙ ap (λ (l : Vec Entry A). entries_in (take i ls) ++ l.items) (sym is))) in
       put
-      ∙ (ap (placed n log.items) before ∙ (sym (placed-append n (entries_in (take i ls)) log.items all) ∙ ap (λ (l : List Entry). placed n l all) (sym more)))
+      ∙ (ap (marked log.items) before ∙ (sym (marked-append (entries_in (take i ls)) log.items order) ∙ ap (λ (l : List Entry). marked l order) (sym more)))
 
   -- what holds of all entries of the logs holds of those of one
   pub in_log : (P : Entry → Type 0) → All P (entries_in ls) → All P log.items
@@ -48,6 +62,27 @@ module _ {A : Type 0} (ls : List (Vec Entry A)) (i : ℕ) (log : Vec Entry A) (l
       (λ k d low'.
       let within : length (entries_in (take i ls)) + length (get_or ls i log).items ≤ length (entries_in ls) = length-flat_map-take (λ (l : Vec Entry A). l.items) ls i log low in
       subst P (get_or-flat_map (λ (l : Vec Entry A). l.items) ls i k log d low low') (all (length (entries_in (take i ls)) + k) d (omega arith)))
+
+-- an entry whose place is 0
+abbrev pub filler : Entry
+filler = record { ticket = 0; core = 0; place = 0; step = Leave 0; answer = Denied }
+
+places_filler : (count : ℕ) → places_in (replicate count filler) ≡ replicate count 0
+places_filler zero = refl
+places_filler (suc count) = ap (λ (l : List ℕ). 0 ∷ l) (places_filler count)
+
+-- the places of entries that are put by ticket
+marked_places : (xs all : List Entry) → marked xs (places_in all) ≡ places_in (placed 0 xs all)
+marked_places [] all = refl
+marked_places (x ∷ xs) all =
+    ap (marked xs)
+    (ap (λ (k : ℕ). set (places_in all) k x.place) (let e : x.ticket ≡ 0 + x.ticket = omega arith in e)
+    ∙ sym (map-set (λ (e : Entry). e.place) all (0 + x.ticket) (raise 0 x)))
+    ∙ marked_places xs (set all (0 + x.ticket) (raise 0 x))
+
+places_raised : (h : List Entry) → places_in (raised 0 h) ≡ places_in h
+places_raised [] = refl
+places_raised (x ∷ h) = ap (λ (l : List ℕ). x.place ∷ l) (places_raised h)
 
 -- WHERE THEY STAND
 
@@ -96,7 +131,7 @@ same_entry (y ∷ h) x e up has has' same =
     (λ rest'. same_entry h x e up.1 rest rest' same) has')
     has
 
-ticket_at : (n j : ℕ) (h : List Entry) (d : Entry) → HaveTicketsFrom n h → j < length h → (get_or h j d).ticket ≡ n + j
+pub ticket_at : (n j : ℕ) (h : List Entry) (d : Entry) → HaveTicketsFrom n h → j < length h → (get_or h j d).ticket ≡ n + j
 ticket_at n j [] d all low = absurd (omega arith)
 ticket_at n zero (x ∷ h) d all low = let first : x.ticket ≡ n = all.0 in omega arith
 ticket_at n (suc j) (x ∷ h) d all low = let rest = ticket_at (n + 1) j h d all.1 (omega arith) in omega arith
@@ -116,18 +151,12 @@ module _ {A : Type 0} (r : ℕ) (h : List Entry) (ls : List (Vec Entry A)) (logs
       let count = logs.as_many in
       none_lost h 0 ls (logs_from r h ls logs) e (omega arith) (omega arith) has
 
-  -- there is room for each behind n others
-  pub within : (n m : ℕ) → m ≡ n + length (entries_in ls) → All (λ (e : Entry). n + e.ticket < m) (entries_in ls)
-  within n m is =
+  -- each ticket is an index
+  pub within : (m : ℕ) → m ≡ length (entries_in ls) → All (λ (e : Entry). e.ticket < m) (entries_in ls)
+  within m is =
       let long = whole_long r h ls logs in
-      all_more (Has (entries_in ls)) (λ (e : Entry). n + e.ticket < m) (entries_in ls)
+      all_more (Has (entries_in ls)) (λ (e : Entry). e.ticket < m) (entries_in ls)
       (λ e has. let t = below_end 0 h e logs.in_order (of_history e has) in omega arith) (has_all (entries_in ls))
-
-  -- logs without an entry are those of no history
-  pub none_behind : (past : List Entry) → entries_in ls ≡ [] → past ≡ past ++ raised (length past) h
-  none_behind past none =
-      let empty : h ≡ [] = nil_from_length h (sym (whole_long r h ls logs) ∙ ap length none) in
-      sym (append-nil past) ∙ ap (λ (l : List Entry). past ++ raised (length past) l) (sym empty)
 
   module _ (past rest : List Entry) (long : length rest ≡ length (entries_in ls)) where
     nth : (j : ℕ) (d : Entry) → j < length h → get_or (placed (length past) (entries_in ls) (past ++ rest)) (length past + j) d ≡ get_or (past ++ raised (length past) h) (length past + j) d
@@ -166,29 +195,17 @@ module _ {A : Type 0} (r : ℕ) (h : List Entry) (ls : List (Vec Entry A)) (logs
         length-append past (raised (length past) h) ∙ ap (λ (k : ℕ). length past + k) (length-map h (raise (length past))) in
         same_lists _ _ (first ∙ sym second) (λ k d low. each k d (omega arith))
 
-  -- a list with that many fillers is long enough to tell their number
-  pub counted : (past filled : List Entry) (filler : Entry) (count len : ℕ) → filled ≡ past ++ replicate count filler → len ≡ length filled → len < 2 ^ 63
-      → count ≡ min (length (entries_in ls)) (2 ^ 64 - 1) → count ≡ length (entries_in ls)
-  counted past filled filler count len is long few found =
-      let both : length filled ≡ length past + length (replicate count filler) = ap length is ∙ length-append past (replicate count filler) in
-      let fillers = length-replicate count filler in
-      omega arith
+  -- as many places as the logs have entries
+  pub counted : (order : List ℕ) (count len : ℕ) → len ≡ length order → len ≡ count → len < 2 ^ 63 → count ≡ min (length (entries_in ls)) (2 ^ 64 - 1)
+      → length order ≡ length (entries_in ls)
+  counted order count len long is few found = omega arith
 
-  -- the entries of the logs find their places there
-  pub room_behind : (past filled : List Entry) (filler : Entry) (before count : ℕ) → filled ≡ past ++ replicate count filler → before ≡ length past → count ≡ length (entries_in ls)
-      → All (λ (e : Entry). before + e.ticket < length filled) (entries_in ls)
-  room_behind past filled filler before count is before_is count_is =
-      let both : length filled ≡ length past + length (replicate count filler) = ap length is ∙ length-append past (replicate count filler) in
-      let fillers = length-replicate count filler in
-      within before (length filled) (omega arith)
-
-  -- and make it the past with the history behind
-  pub all_behind : (past filled new : List Entry) (filler : Entry) (before count len : ℕ) → filled ≡ past ++ replicate count filler → before ≡ length past
-      → count ≡ length (entries_in ls) → len ≡ length filled → new ≡ placed before (entries_in ls) filled
-      → take len (new ++ drop (length new) filled) ≡ past ++ raised (length past) h
-  all_behind past filled new filler before count len is before_is count_is long put =
-      let same : length new ≡ length filled = ap length put ∙ length-placed before (entries_in ls) filled in
-      take_at new (drop (length new) filled) len (same ∙ sym long)
-      ∙ (put
-      ∙ ((λ i. placed (before_is i) (entries_in ls) (is i))
-      ∙ behind_is past (replicate count filler) (length-replicate count filler ∙ count_is)))
+  -- the places by ticket are those of the history
+  pub order_is : (order : List ℕ) (count : ℕ) → order ≡ marked (entries_in ls) (replicate count 0) → count ≡ length (entries_in ls) → order ≡ places_in h
+  order_is order count is count_is =
+      let fillers : List Entry = replicate count filler in
+      is
+      ∙ ap (marked (entries_in ls)) (sym (places_filler count))
+      ∙ marked_places (entries_in ls) fillers
+      ∙ ap places_in (behind_is [] fillers (length-replicate count filler ∙ count_is))
+      ∙ places_raised h

@@ -1,5 +1,6 @@
-pub mod WordLemmas
 pub mod TableLemmas
+pub mod BlockLemmas
 pub mod SoFarLemmas
 pub mod SoundLemmas
 pub mod ReadLemmas
+pub mod DigitLemmas

@@ -4,13 +4,13 @@ use Rattle.std.specs.Prelude.{Result, Ok, Err, length, nat_lt, ◌&&◌}
 use Rattle.svsm_types.specs.declared.image.Image.{Image}
 use Rattle.svsm_steps.specs.Image.{range_of}
 use Rattle.svsm_steps.specs.Sound.{IsSound}
-use Rattle.image_reader.specs.declared.kind.ImageKind.{ImageKind}
-use Rattle.image_reader.specs.declared.kind.ImageKind.TheVariants as kinds
-use Rattle.image_reader.specs.Told.{◌>>=◌, holds}
-use Rattle.image_reader.specs.Kept.{Line, kept_lines}
-use Rattle.image_reader.specs.Grammar.{lines_told}
-use Rattle.image_reader.specs.End.{end_told, are_even, is_module_assigned, are_free, are_seats}
-use Rattle.image_reader.specs.Image.{head_told, image_of}
+use Rattle.image_grammar.specs.declared.kind.ImageKind.{ImageKind}
+use Rattle.image_grammar.specs.declared.kind.ImageKind.TheVariants as kinds
+use Rattle.image_grammar.specs.Told.{◌>>=◌, holds}
+use Rattle.image_grammar.specs.Kept.{Line, kept_lines}
+use Rattle.image_grammar.specs.Grammar.{lines_told}
+use Rattle.image_grammar.specs.End.{end_told, are_even, is_module_assigned, are_free, are_seats, has_blocks}
+use Rattle.image_grammar.specs.Image.{head_told, image_of}
 use Rattle.image_reader.specs.SoFar.{IsSoFar}
 use Rattle.image_reader.proofs.SoundLemmas.{sound_whole}
 
@@ -38,4 +38,5 @@ ended image far is =
     let ghcb = test_held kinds.Ghcb (is_module_assigned (range_of image image.ghcb.0)) _ image even.1 in
     let free = test_held kinds.Accept (are_free image) _ image ghcb.1 in
     let cores = test_held kinds.Core (nat_lt 0 (length image.cores) && are_seats image) _ image free.1 in
-    sound_whole image far even.0 ghcb.0 free.0 cores.0
+    let blocks = test_held kinds.Block (has_blocks image) _ image cores.1 in
+    sound_whole image far even.0 ghcb.0 free.0 cores.0 blocks.0

@@ -1,7 +1,7 @@
 -- One item more.
-use Rattle.std.proofs.Common.{◌≡◌, ℕ, zero, suc, ◌+◌, ◌*◌, ◌<◌, ◌≤◌, ◌^◌, Bool, true, false, nat_lt, cond, List, [], ◌∷◌, ◌++◌, length, refl, sym, ◌∙◌, ap, subst, arith, length-append}
-use Rattle.std.specs.Prelude.{Option, Some, None, is_some, nat_le, ◌&&◌, ◌||◌, ◌==◌, not, IsTrue, if◌then◌else◌, find, count_by}
-use Rattle.std.specs.List.{list_any, list_all, range_with_len}
+use Rattle.std.proofs.Common.{◌≡◌, ℕ, ◌+◌, ◌<◌, ◌≤◌, Bool, true, false, nat_lt, cond, List, [], ◌∷◌, ◌++◌, length, refl, sym, ◌∙◌, ap, subst, arith, length-append}
+use Rattle.std.specs.Prelude.{Option, Some, None, nat_le, ◌&&◌, ◌||◌, ◌==◌, count_by}
+use Rattle.std.specs.List.{list_any, list_all}
 use Rattle.std.proofs.lemmas.Bool.Decides.{nat_tests}
 use Rattle.std.proofs.lemmas.List.Sums.{sum_by-append}
 use Rattle.svsm_types.specs.declared.image.Image.{Image}
@@ -11,11 +11,12 @@ use Rattle.svsm_types.specs.declared.image.CoreLine.{CoreLine}
 use Rattle.svsm_types.specs.declared.image.FaultAt.{FaultAt}
 use Rattle.svsm_types.specs.declared.address.Page.{Page}
 use Rattle.svsm_types.specs.declared.address.Gpa.{Gpa}
+use Rattle.svsm_types.specs.declared.platform.Size.{Size}
 use Rattle.svsm_steps.specs.Image.{is_in_range}
-use Rattle.svsm_steps.specs.Sound.{is_range_in_map, has_lawful_rights, is_valid_where_held, is_sound_range, is_sound_span, is_sound_core, is_sound_fill, is_in_limits, is_in_span, is_accepted, has_vmsa, sits_at}
-use Rattle.image_reader.specs.declared.item.Item.{Item}
-use Rattle.image_reader.specs.declared.item.Item.TheVariants as items
-use Rattle.image_reader.specs.Grammar.{overlaps, is_lawful, with_item, seat_taken, core_taken}
+use Rattle.svsm_steps.specs.Sound.{is_range_in_map, has_lawful_rights, is_valid_where_held, is_sound_range, is_sound_span, is_sound_core, is_sound_fill, is_in_limits, is_in_span, is_accepted, is_level, has_vmsa, sits_at}
+use Rattle.image_grammar.specs.declared.item.Item.{Item}
+use Rattle.image_grammar.specs.declared.item.Item.TheVariants as items
+use Rattle.image_grammar.specs.Grammar.{overlaps, is_lawful, with_item, seat_taken}
 use Rattle.image_reader.specs.SoFar.{IsSoFar, is_in_place}
 use Rattle.image_reader.proofs.TableLemmas.{both, not_above, below, none_at, found, free_at}
 
@@ -85,6 +86,7 @@ range_more image range far place free lawful = record {
   regions_least = far.regions_least;
   regions_most = far.regions_most;
   vmpl = far.vmpl;
+  second = far.second;
   ghcb = far.ghcb;
   ranges = all_more (is_sound_range image.regions) image.ranges range far.ranges (both_hold place lawful);
   apart = λ page. one_more (is_in_range page) image.ranges range (far.apart page) (λ is. not_found page image.ranges (free_at image.ranges range page free is));
@@ -93,6 +95,7 @@ range_more image range far place free lawful = record {
   spans_apart = far.spans_apart;
   cores_most = far.cores_most;
   cores = far.cores;
+  levels = far.levels;
   apics = far.apics;
   vmsas_apart = far.vmsas_apart;
   fills = far.fills;
@@ -105,6 +108,7 @@ large_more image region far place = record {
   regions_least = far.regions_least;
   regions_most = far.regions_most;
   vmpl = far.vmpl;
+  second = far.second;
   ghcb = far.ghcb;
   ranges = far.ranges;
   apart = far.apart;
@@ -113,6 +117,7 @@ large_more image region far place = record {
   spans_apart = far.spans_apart;
   cores_most = far.cores_most;
   cores = far.cores;
+  levels = far.levels;
   apics = far.apics;
   vmsas_apart = far.vmsas_apart;
   fills = far.fills;
@@ -135,6 +140,7 @@ accept_more image span far place free = record {
   regions_least = far.regions_least;
   regions_most = far.regions_most;
   vmpl = far.vmpl;
+  second = far.second;
   ghcb = far.ghcb;
   ranges = far.ranges;
   apart = far.apart;
@@ -143,6 +149,7 @@ accept_more image span far place free = record {
   spans_apart = λ page. one_more (is_in_span page) image.accepts span (far.spans_apart page) (not_accepted image span page free);
   cores_most = far.cores_most;
   cores = far.cores;
+  levels = far.levels;
   apics = far.apics;
   vmsas_apart = far.vmsas_apart;
   fills = far.fills;
@@ -158,22 +165,25 @@ seat_free : (page : ℕ) (earlier : List CoreLine) (seat : Option (Page × Gpa))
 seat_free page earlier None free is = absurd cc
 seat_free page earlier (Some seat) free is = subst (λ (p : ℕ). list_any (has_vmsa p) earlier ≡ false) (equal seat.0.0 page is) free
 
-core_more : (image : Image) (core : CoreLine) → IsSoFar image → is_sound_core image.regions core ≡ true → overlaps image (items.Core core) ≡ false → IsSoFar (with_item image (items.Core core))
+core_more : (image : Image) (core : CoreLine) → IsSoFar image → is_sound_core image.regions core && is_level image core.vmpl ≡ true → overlaps image (items.Core core) ≡ false → IsSoFar (with_item image (items.Core core))
 core_more image core far place free =
-    let first = either_false (list_any (λ (other : CoreLine). other.apic == core.apic) image.cores) (seat_taken image.cores core.seat || nat_le 16 (length image.cores)) free in
-    let second = either_false (seat_taken image.cores core.seat) (nat_le 16 (length image.cores)) first.1 in
+    let first = either_false (list_any (λ (other : CoreLine). other.apic == core.apic) image.cores) (seat_taken image.cores core.seat || nat_le 64 (length image.cores)) free in
+    let lines = both (is_sound_core image.regions core) (is_level image core.vmpl) place in
+    let second = either_false (seat_taken image.cores core.seat) (nat_le 64 (length image.cores)) first.1 in
     record {
       regions_least = far.regions_least;
       regions_most = far.regions_most;
       vmpl = far.vmpl;
+      second = far.second;
       ghcb = far.ghcb;
       ranges = far.ranges;
       apart = far.apart;
       large = far.large;
       spans = far.spans;
       spans_apart = far.spans_apart;
-      cores_most = omega (arith, length-append image.cores (core ∷ []), short 16 (length image.cores) second.1);
-      cores = all_more (is_sound_core image.regions) image.cores core far.cores place;
+      cores_most = omega (arith, length-append image.cores (core ∷ []), short 64 (length image.cores) second.1);
+      cores = all_more (is_sound_core image.regions) image.cores core far.cores lines.0;
+      levels = all_more (λ (other : CoreLine). is_level image other.vmpl) image.cores core far.levels lines.1;
       apics = λ apic. one_more (λ (other : CoreLine). other.apic == apic) image.cores core (far.apics apic) (apic_free apic image.cores core first.0);
       vmsas_apart = λ page. one_more (has_vmsa page) image.cores core (far.vmsas_apart page) (seat_free page image.cores core.seat second.0);
       fills = far.fills;
@@ -181,15 +191,13 @@ core_more image core far place free =
       host = far.host;
     }
 
-pub so_far_more : (image : Image) (item : Item) → IsSoFar image → is_in_place image.regions item ≡ true → overlaps image item ≡ false → is_lawful item ≡ true → IsSoFar (with_item image item)
-so_far_more image (items.Range range) far place free lawful = range_more image range far place free lawful
-so_far_more image (items.Large region) far place free lawful = large_more image region far place
-so_far_more image (items.Accept span) far place free lawful = accept_more image span far place free
-so_far_more image (items.Core core) far place free lawful = core_more image core far place free
-so_far_more image (items.Bytes fill) far place free lawful = record {
+-- neither the listed blocks nor the two marks are tried before the end
+pool_more : (image : Image) (split announce : Bool) (blocks : List (Page × Size)) → IsSoFar image → IsSoFar (record image { split = split; blocks = blocks; announce = announce })
+pool_more image split announce blocks far = record {
   regions_least = far.regions_least;
   regions_most = far.regions_most;
   vmpl = far.vmpl;
+  second = far.second;
   ghcb = far.ghcb;
   ranges = far.ranges;
   apart = far.apart;
@@ -198,6 +206,33 @@ so_far_more image (items.Bytes fill) far place free lawful = record {
   spans_apart = far.spans_apart;
   cores_most = far.cores_most;
   cores = far.cores;
+  levels = far.levels;
+  apics = far.apics;
+  vmsas_apart = far.vmsas_apart;
+  fills = far.fills;
+  faults = far.faults;
+  host = far.host;
+}
+
+pub so_far_more : (image : Image) (item : Item) → IsSoFar image → is_in_place image item ≡ true → overlaps image item ≡ false → is_lawful item ≡ true → IsSoFar (with_item image item)
+so_far_more image (items.Range range) far place free lawful = range_more image range far place free lawful
+so_far_more image (items.Large region) far place free lawful = large_more image region far place
+so_far_more image (items.Accept span) far place free lawful = accept_more image span far place free
+so_far_more image (items.Core core) far place free lawful = core_more image core far place free
+so_far_more image (items.Bytes fill) far place free lawful = record {
+  regions_least = far.regions_least;
+  regions_most = far.regions_most;
+  vmpl = far.vmpl;
+  second = far.second;
+  ghcb = far.ghcb;
+  ranges = far.ranges;
+  apart = far.apart;
+  large = far.large;
+  spans = far.spans;
+  spans_apart = far.spans_apart;
+  cores_most = far.cores_most;
+  cores = far.cores;
+  levels = far.levels;
   apics = far.apics;
   vmsas_apart = far.vmsas_apart;
   fills = all_more (is_sound_fill image.regions) image.fills fill far.fills place;
@@ -208,6 +243,7 @@ so_far_more image (items.Fault fault) far place free lawful = record {
   regions_least = far.regions_least;
   regions_most = far.regions_most;
   vmpl = far.vmpl;
+  second = far.second;
   ghcb = far.ghcb;
   ranges = far.ranges;
   apart = far.apart;
@@ -216,6 +252,7 @@ so_far_more image (items.Fault fault) far place free lawful = record {
   spans_apart = far.spans_apart;
   cores_most = far.cores_most;
   cores = far.cores;
+  levels = far.levels;
   apics = far.apics;
   vmsas_apart = far.vmsas_apart;
   fills = far.fills;
@@ -226,6 +263,7 @@ so_far_more image (items.Host line) far place free lawful = record {
   regions_least = far.regions_least;
   regions_most = far.regions_most;
   vmpl = far.vmpl;
+  second = far.second;
   ghcb = far.ghcb;
   ranges = far.ranges;
   apart = far.apart;
@@ -234,9 +272,13 @@ so_far_more image (items.Host line) far place free lawful = record {
   spans_apart = far.spans_apart;
   cores_most = far.cores_most;
   cores = far.cores;
+  levels = far.levels;
   apics = far.apics;
   vmsas_apart = far.vmsas_apart;
   fills = far.fills;
   faults = far.faults;
   host = all_more (is_in_limits) image.host line far.host place;
 }
+so_far_more image items.Split far place free lawful = pool_more image true image.announce image.blocks far
+so_far_more image (items.Block block) far place free lawful = pool_more image image.split image.announce (image.blocks ++ block ∷ []) far
+so_far_more image items.Announce far place free lawful = pool_more image image.split true image.blocks far

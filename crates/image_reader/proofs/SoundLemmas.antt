@@ -1,26 +1,30 @@
 -- An image that passes the tests at the end is sound.
-use Rattle.std.proofs.Common.{◌≡◌, ℕ, zero, suc, ◌+◌, ◌*◌, ◌/◌, ◌%◌, ◌^◌, ◌<◌, ◌≤◌, Bool, true, false, nat_lt, List, [], ◌∷◌, length, refl, sym, ◌∙◌, ap, subst, arith}
-use Rattle.std.specs.Prelude.{◌≢◌, Option, Some, None, nat_le, ◌&&◌, ◌||◌, ◌==◌, not, IsTrue}
-use Rattle.std.specs.List.{list_any, list_all, range_with_len}
+use Rattle.std.proofs.Common.{◌≡◌, ℕ, ◌+◌, ◌*◌, ◌/◌, ◌%◌, ◌^◌, ◌<◌, ◌≤◌, Bool, true, false, nat_lt, List, [], ◌∷◌, length, refl, sym, ◌∙◌, ap, subst, arith}
+use Rattle.std.specs.Prelude.{◌≢◌, Option, Some, None, nat_le, ◌&&◌, ◌||◌, ◌==◌, not}
+use Rattle.std.specs.List.{list_any, list_all}
 use Rattle.std.proofs.lemmas.Bool.Decides.{nat_tests}
-use Rattle.svsm_types.specs.Pages.{page_of, region_of, is_multiple, is_in_map}
+use Rattle.svsm_types.specs.Pages.{region_of, is_in_map}
 use Rattle.svsm_types.specs.declared.image.Image.{Image}
 use Rattle.svsm_types.specs.declared.image.Range.{Range}
 use Rattle.svsm_types.specs.declared.image.Span.{Span}
 use Rattle.svsm_types.specs.declared.image.CoreLine.{CoreLine}
 use Rattle.svsm_types.specs.declared.address.Page.{Page}
 use Rattle.svsm_types.specs.declared.address.Gpa.{Gpa}
+use Rattle.svsm_types.specs.declared.platform.Size.{Size}
 use Rattle.svsm_types.specs.declared.owner.Owner.{Owner}
 use Rattle.svsm_types.specs.declared.owner.Owner.TheVariants.{Guest, Module, Pool, Vmsa}
 use Rattle.svsm_types.specs.declared.platform.HwState.{HwState}
 use Rattle.svsm_types.specs.declared.platform.HwState.TheVariants.{Shared, Assigned, Valid}
 use Rattle.svsm_types.specs.declared.platform.PageState.{PageState}
 use Rattle.svsm_steps.specs.Checks.{same_owner}
-use Rattle.svsm_steps.specs.Image.{is_in_range, range_of, owner_in, is_valid, is_assigned, page_in, is_held_large, pages_of}
-use Rattle.svsm_steps.specs.Sound.{IsSound, is_range_in_map, is_sound_range, has_lawful_rights, is_valid_where_held, is_sound_span, is_sound_core, is_sound_seat, is_in_span, is_accepted, has_vmsa, sits_at}
-use Rattle.image_reader.specs.End.{same_state, state_in, rights_in, are_alike, is_vmsa, are_same, is_even, are_even, is_module_assigned, is_guest_shared, are_free, same, are_seats}
+use Rattle.svsm_steps.specs.Words.{as_bit}
+use Rattle.svsm_steps.specs.Image.{is_in_range, range_of, owner_in, is_valid, is_assigned, page_in, is_held_large, is_pools}
+use Rattle.svsm_steps.specs.Sound.{IsSound, is_range_in_map, is_sound_range, is_sound_span, is_sound_core, is_sound_seat, is_in_span, is_accepted, has_vmsa, sits_at, is_sound_block, HasBlocks}
+use Rattle.image_grammar.specs.End.{same_state, state_in, rights_in, are_alike, is_vmsa_page, are_same, is_even, are_even, is_module_assigned, is_guest_shared, are_free, same, are_seats, are_listed, has_blocks}
+use Rattle.image_reader.specs.Blocks.{listed}
 use Rattle.image_reader.specs.SoFar.{IsSoFar}
 use Rattle.image_reader.proofs.TableLemmas.{both, not_above, below, all_at, found, inside}
+use Rattle.image_reader.proofs.BlockLemmas.{listed_more, block_in_map}
 
 -- TESTS
 
@@ -157,9 +161,9 @@ first_of_other image far even page other held same =
 
 not_vmsa : (image : Image) → IsSoFar image → are_even image ≡ true → (page : ℕ) → is_held_large image (region_of page) ≡ true → owner_in (range_of image page) ≢ Vmsa
 not_vmsa image far even page held is =
-    let none : not (is_vmsa (range_of image (512 * region_of page))) ≡ true =
+    let none : not (is_vmsa_page (range_of image (512 * region_of page))) ≡ true =
     (both (are_same image (region_of page)) _ (even_by image far even (region_of page) held)).1 in
-    never (is_vmsa (range_of image (512 * region_of page))) none
+    never (is_vmsa_page (range_of image (512 * region_of page))) none
     (ap (λ (o : Owner). same_owner o Vmsa) ((first_page image far even page held).0 ∙ is))
 
 -- THE MAP
@@ -202,23 +206,67 @@ outside_by : (a : Bool) → (a ≡ true → ⊥) → a ≡ false
 outside_by true no_such = absurd (no_such refl)
 outside_by false no_such = refl
 
-no_vmsa_outside : (image : Image) → IsSoFar image → (page : ℕ) → (page < 512 * image.regions → ⊥) → list_any (has_vmsa page) image.cores ≡ is_vmsa (range_of image page)
+no_vmsa_outside : (image : Image) → IsSoFar image → (page : ℕ) → (page < 512 * image.regions → ⊥) → list_any (has_vmsa page) image.cores ≡ is_vmsa_page (range_of image page)
 no_vmsa_outside image far page out =
     let cores : list_any (has_vmsa page) image.cores ≡ false = outside_by _ (λ is. out (one_of (is_sound_core image.regions) (has_vmsa page) image.cores (page < 512 * image.regions) far.cores is (core_in_map image.regions page))) in
     let ranges : list_any (is_in_range page) image.ranges ≡ false = outside_by _ (λ is. out (one_of (is_sound_range image.regions) (is_in_range page) image.ranges (page < 512 * image.regions) far.ranges is (range_in_map image.regions page))) in
-    cores ∙ sym (ap is_vmsa (none_found page image.ranges ranges))
+    cores ∙ sym (ap is_vmsa_page (none_found page image.ranges ranges))
 
-seats_by : (image : Image) → IsSoFar image → are_seats image ≡ true → (page : ℕ) (t : Bool) → nat_lt page (512 * image.regions) ≡ t → list_any (has_vmsa page) image.cores ≡ is_vmsa (range_of image page)
+outside_map : (m n : ℕ) → nat_lt m n ≡ false → m < n → ⊥
+outside_map m n no_less less = grind (arith, nat_tests)
+
+seats_by : (image : Image) → IsSoFar image → are_seats image ≡ true → (page : ℕ) (t : Bool) → nat_lt page (512 * image.regions) ≡ t → list_any (has_vmsa page) image.cores ≡ is_vmsa_page (range_of image page)
 seats_by image far seats page true is =
-    sames (list_any (has_vmsa page) image.cores) (is_vmsa (range_of image page))
-    (all_at (λ p. same (list_any (has_vmsa p) image.cores) (is_vmsa (range_of image p))) 0 (512 * image.regions) page seats (omega arith) (omega (arith, below page (512 * image.regions) is)))
-seats_by image far seats page false is = no_vmsa_outside image far page (λ within. outside_map page (512 * image.regions) is within) where
-  outside_map : (m n : ℕ) → nat_lt m n ≡ false → m < n → ⊥
-  outside_map m n no_less less = grind (arith, nat_tests)
+    sames (list_any (has_vmsa page) image.cores) (is_vmsa_page (range_of image page))
+    (all_at (λ p. same (list_any (has_vmsa p) image.cores) (is_vmsa_page (range_of image p))) 0 (512 * image.regions) page seats (omega arith) (omega (arith, below page (512 * image.regions) is)))
+seats_by image far seats page false is = no_vmsa_outside image far page (outside_map page (512 * image.regions) is)
+
+-- BLOCKS
+
+some_listed : {A : Type 0} (x : A) (xs : List A) → (length (x ∷ xs) == 0) ≡ false
+some_listed x xs = grind (arith, nat_tests)
+
+-- where there are blocks, the test is tried
+listed_test : (blocks : List (Page × Size)) (block : Page × Size) (test : Bool) → length (block ∷ blocks) == 0 || test ≡ true → test ≡ true
+listed_test blocks block test is = or_right (length (block ∷ blocks) == 0) test is (some_listed block blocks)
+
+blocks_sound : (blocks : List (Page × Size)) (sound : Page × Size → Bool) (rest : Bool) → length blocks == 0 || (list_all sound blocks && rest) ≡ true → list_all sound blocks ≡ true
+blocks_sound [] sound rest is = refl
+blocks_sound (block ∷ blocks) sound rest is = (both (list_all sound (block ∷ blocks)) rest (listed_test blocks block (list_all sound (block ∷ blocks) && rest) is)).0
+
+-- outside the map there is no page of a block, and none of the pool
+none_outside : (image : Image) (blocks : List (Page × Size)) (page : ℕ) → list_all (is_sound_block image) blocks ≡ true → (page < 512 * image.regions → ⊥) → listed blocks page ≡ 0
+none_outside image [] page sound out = refl
+none_outside image (block ∷ blocks) page sound out =
+    let parts = both (is_sound_block image block) (list_all (is_sound_block image) blocks) sound in
+    let rest : listed blocks page ≡ 0 = none_outside image blocks page parts.1 out in
+    let first : listed (block ∷ blocks) page ≡ 0 + listed blocks page = listed_more block blocks page false (outside_by _ (λ is. out (block_in_map image block page parts.0 is))) in
+    omega (arith, first, rest)
+
+not_pools_outside : (image : Image) → IsSoFar image → (page : ℕ) → (page < 512 * image.regions → ⊥) → is_pools image page ≡ false
+not_pools_outside image far page out =
+    let ranges : list_any (is_in_range page) image.ranges ≡ false = outside_by _ (λ is. out (one_of (is_sound_range image.regions) (is_in_range page) image.ranges (page < 512 * image.regions) far.ranges is (range_in_map image.regions page))) in
+    ap (λ (o : Option Range). same_owner (owner_in o) Pool) (none_found page image.ranges ranges)
+
+listed_by : (image : Image) → IsSoFar image → list_all (is_sound_block image) image.blocks ≡ true → are_listed image ≡ true → (page : ℕ) (t : Bool) → nat_lt page (512 * image.regions) ≡ t
+    → listed image.blocks page ≡ as_bit (is_pools image page)
+listed_by image far sound are page true is =
+    equal (listed image.blocks page) (as_bit (is_pools image page))
+    (all_at (λ p. listed image.blocks p == as_bit (is_pools image p)) 0 (512 * image.regions) page are (omega arith) (omega (arith, below page (512 * image.regions) is)))
+listed_by image far sound are page false is =
+    none_outside image image.blocks page sound (outside_map page (512 * image.regions) is) ∙ sym (ap as_bit (not_pools_outside image far page (outside_map page (512 * image.regions) is)))
+
+blocks_of : (image : Image) → IsSoFar image → (blocks : List (Page × Size)) → image.blocks ≡ blocks → has_blocks image ≡ true → HasBlocks image blocks
+blocks_of image far [] is has = tt
+blocks_of image far (block ∷ blocks) is has = λ page.
+    let test = list_all (is_sound_block image) image.blocks && are_listed image in
+    let parts = both (list_all (is_sound_block image) image.blocks) (are_listed image)
+    (listed_test blocks block test (subst (λ (all : List (Page × Size)). length all == 0 || test ≡ true) is has)) in
+    subst (λ (all : List (Page × Size)). listed all page ≡ as_bit (is_pools image page)) is (listed_by image far parts.0 parts.1 page (nat_lt page (512 * image.regions)) refl)
 
 pub sound_whole : (image : Image) → IsSoFar image → are_even image ≡ true → is_module_assigned (range_of image image.ghcb.0) ≡ true → are_free image ≡ true
-    → nat_lt 0 (length image.cores) && are_seats image ≡ true → IsSound image
-sound_whole image far even ghcb free cores =
+    → nat_lt 0 (length image.cores) && are_seats image ≡ true → has_blocks image ≡ true → IsSound image
+sound_whole image far even ghcb free cores blocks =
     let owned = both (same_owner (owner_in (range_of image image.ghcb.0)) Module) (same_state (state_in (range_of image image.ghcb.0)) Assigned) ghcb in
     let assigned = assigned_by (range_of image image.ghcb.0) (same_states _ Assigned owned.1) in
     let parts = both (nat_lt 0 (length image.cores)) (are_seats image) cores in
@@ -226,6 +274,7 @@ sound_whole image far even ghcb free cores =
       regions_least = far.regions_least;
       regions_most = far.regions_most;
       vmpl = far.vmpl;
+      second = far.second;
       ranges = far.ranges;
       apart = far.apart;
       large = far.large;
@@ -243,10 +292,13 @@ sound_whole image far even ghcb free cores =
       cores_least = below 0 (length image.cores) parts.0;
       cores_most = far.cores_most;
       cores = far.cores;
+      levels = far.levels;
       apics = far.apics;
       vmsas_apart = far.vmsas_apart;
       vmsas = λ page. seats_by image far parts.1 page (nat_lt page (512 * image.regions)) refl;
       fills = far.fills;
       faults = far.faults;
       host = far.host;
+      blocks = blocks_sound image.blocks (is_sound_block image) (are_listed image) blocks;
+      blocks_of_pool = blocks_of image far image.blocks refl blocks;
     }

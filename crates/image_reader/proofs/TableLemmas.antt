@@ -1,13 +1,13 @@
 -- Tables with one place a page, or a region.
-use Rattle.std.proofs.Common.{◌≡◌, ℕ, zero, suc, ◌+◌, ◌*◌, ◌-◌, ◌<◌, ◌≤◌, Bool, true, false, nat_lt, nat_eq, cond, List, [], ◌∷◌, ◌++◌, length, take, drop, get_or, refl, sym, ◌∙◌, ap, arith, add-one, drop-cons}
+use Rattle.std.proofs.Common.{◌≡◌, ℕ, zero, suc, ◌+◌, ◌*◌, ◌<◌, ◌≤◌, Bool, true, false, nat_lt, nat_eq, cond, List, [], ◌∷◌, ◌++◌, length, take, drop, get_or, refl, sym, ◌∙◌, ap, arith, drop-cons}
 use Rattle.std.specs.Prelude.{Option, Some, None, is_some, nat_le, ◌&&◌, ◌||◌, ◌==◌, if◌then◌else◌, find, slice_index_or}
 use Rattle.std.specs.List.{list_any, list_all, range_with_len}
 use Rattle.std.proofs.lemmas.Bool.Decides.{nat_tests}
 use Rattle.svsm_types.specs.declared.image.Range.{Range}
 use Rattle.svsm_steps.specs.Image.{is_in_range}
 use Rattle.svsm_types.specs.declared.image.Image.{Image}
-use Rattle.image_reader.specs.declared.item.Item.TheVariants as items
-use Rattle.image_reader.specs.Grammar.{overlaps, with_item}
+use Rattle.image_grammar.specs.declared.item.Item.TheVariants as items
+use Rattle.image_grammar.specs.Grammar.{overlaps, with_item}
 use Rattle.image_reader.specs.Marked.{IsTable, AreMarked}
 
 -- a test of one of the places of a run

@@ -1,10 +1,5 @@
-pub mod Told
-pub mod Words
-pub mod Forms
-pub mod Kept
-pub mod Grammar
-pub mod End
-pub mod Image
 pub mod Marked
+pub mod Blocks
 pub mod SoFar
 pub mod Draft
+pub mod Digits

@@ -3,23 +3,23 @@ ghost use Rattle.std.specs.Prelude.{◌≡◌, ◌≤◌, ◌<◌, ◌*◌, ◌=
 ghost use Rattle.std.specs.List.{list_any};
 ghost use Rattle.svsm_text.specs.Lines.{fields};
 ghost use Rattle.svsm_steps.specs.Sound.{is_range_in_map, is_sound_span, has_lawful_rights, is_valid_where_held, is_accepted, has_vmsa};
-ghost use Rattle.image_reader.specs.Told.{TellsAfter};
-ghost use Rattle.image_reader.specs.Grammar.{is_any_page, has_range, seat_taken, core_taken, overlaps, is_lawful, with_item, item_told, line_told};
+ghost use Rattle.image_grammar.specs.Told.{TellsAfter};
+ghost use Rattle.image_grammar.specs.Grammar.{is_any_page, has_range, seat_taken, core_taken, overlaps, is_lawful, with_item, item_told, line_told};
 ghost use Rattle.image_reader.specs.Marked.{AreMarked};
-ghost use Rattle.image_reader.specs.SoFar.{is_in_place};
-ghost use Rattle.image_reader.specs.Image.{image_with};
+ghost use Rattle.image_reader.specs.SoFar.{AreLevels, is_in_place};
+ghost use Rattle.image_grammar.specs.Image.{image_with};
 ghost use Rattle.image_reader.specs.Draft.{IsDraft};
 
-use crate::item::{Item, item_line};
-use crate::kind::{ImageKind, LineError};
+use crate::item::item_line;
 use crate::tables::{mark, mark_range};
+use image_grammar::{ImageKind, Item, Levels, LineError};
 use std::alloc::Global;
-use svsm_text::fields_of;
-use svsm_types::{CoreLine, HwState, Image, NoMemory, Owner, Page, Range, Sequence, Span, Vmpl};
+use svsm_text::few_fields_of;
+use svsm_types::{CoreLine, HwState, Image, NoMemory, Owner, Page, Range, Sequence, Span};
 
 const PAGES: u64 = 512;
 
-const MOST_CORES: usize = 16;
+const MOST_CORES: usize = 64;
 
 /// The image so far. Each accepted line marks its pages once, so that later lines and the end find them at once.
 #[derive(Drop)]
@@ -34,12 +34,13 @@ pub struct Draft {
 }
 
 // An image of which the first five lines are read.
-fn image_with(alloc: Global, regions: u64, vmpl: Vmpl, features: u64, ghcb: Page) -> Image
-    ensures { result ≡ image_with regions vmpl.0 features ghcb.0 }
+fn image_with(alloc: Global, regions: u64, levels: Levels, features: u64, ghcb: Page) -> Image
+    ensures { result ≡ image_with regions levels features ghcb.0 }
 {
     Image {
         regions,
-        vmpl,
+        vmpl: levels.first,
+        second: levels.second,
         features,
         ghcb,
         ranges: Sequence::new(alloc),
@@ -49,6 +50,9 @@ fn image_with(alloc: Global, regions: u64, vmpl: Vmpl, features: u64, ghcb: Page
         fills: Sequence::new(alloc),
         faults: Sequence::new(alloc),
         host: Sequence::new(alloc),
+        split: false,
+        blocks: Sequence::new(alloc),
+        announce: false,
     }
 }
 
@@ -113,16 +117,15 @@ impl Draft {
     pub fn new(
         alloc: Global,
         regions: u64,
-        vmpl: Vmpl,
+        levels: Levels,
         features: u64,
         ghcb: Page,
     ) -> Result<Draft, NoMemory>
         requires regions_least { 1 ≤ regions }
-        requires regions_most { regions ≤ 64 }
-        requires vmpl_least { 1 ≤ vmpl.0 }
-        requires vmpl_most { vmpl.0 ≤ 3 }
+        requires regions_most { regions ≤ 512 }
+        requires levels { AreLevels levels }
         requires ghcb { ghcb.0 < 512 * regions }
-        ensures image { IfOk result (λ draft. draft.image ≡ image_with regions vmpl.0 features ghcb.0) }
+        ensures image { IfOk result (λ draft. draft.image ≡ image_with regions levels features ghcb.0) }
         ensures whole { IfOk result IsDraft }
     {
         let pages = (PAGES * regions) as usize;
@@ -133,7 +136,7 @@ impl Draft {
         let mut large = Vec::new(alloc);
         large.resize(regions as usize, false)?;
         Ok(Draft {
-            image: image_with(alloc, regions, vmpl, features, ghcb),
+            image: image_with(alloc, regions, levels, features, ghcb),
             ranges,
             accepts,
             large,
@@ -165,7 +168,7 @@ impl Draft {
     // Whether something of the item stood before.
     fn overlaps(&self, item: &Item) -> bool
         requires whole { IsDraft self.now }
-        requires within { IsTrue (is_in_place self.now.image.regions item.now) }
+        requires within { IsTrue (is_in_place self.now.image item.now) }
         ensures { result ≡ overlaps self.now.image item.now }
     {
         match item {
@@ -213,7 +216,7 @@ impl Draft {
     // Adds an item that may stand here.
     fn put(&mut self, item: Item) -> Result<(), NoMemory>
         requires whole { IsDraft self.old }
-        requires within { IsTrue (is_in_place self.old.image.regions item) }
+        requires within { IsTrue (is_in_place self.old.image item) }
         requires free { overlaps self.old.image item ≡ false }
         ensures image { OnOk result (self.new.image ≡ with_item self.old.image item) }
         ensures marked { OnOk result (AreMarked self.new.image self.new.ranges.items self.new.accepts.items self.new.large.items) }
@@ -226,13 +229,22 @@ impl Draft {
             Item::Bytes(fill) => self.image.fills.push(fill),
             Item::Fault(fault) => self.image.faults.push(fault),
             Item::Host(line) => self.image.host.push(line),
+            Item::Split => {
+                self.image.split = true;
+                Ok(())
+            }
+            Item::Block(block) => self.image.blocks.push(block),
+            Item::Announce => {
+                self.image.announce = true;
+                Ok(())
+            }
         }
     }
 
     // Adds an item, where it may stand here.
     fn add(&mut self, item: Item) -> Result<(), LineError>
         requires whole { IsDraft self.old }
-        requires within { IsTrue (is_in_place self.old.image.regions item) }
+        requires within { IsTrue (is_in_place self.old.image item) }
         ensures told { TellsAfter (item_told self.old.image item) self.new.image result }
         ensures whole { OnOk result (IsDraft self.new) }
     {
@@ -252,8 +264,11 @@ impl Draft {
         ensures told { TellsAfter (line_told self.old.image (fields line.now)) self.new.image result }
         ensures whole { OnOk result (IsDraft self.new) }
     {
-        let fields = fields_of(alloc, line)?;
-        let item = item_line(alloc, self.image.regions, &fields)?;
+        let Some(few) = few_fields_of(line) else {
+            return Err(LineError::Bad(ImageKind::Line));
+        };
+        let fields = few.0;
+        let item = item_line(alloc, &self.image, &fields[..few.1])?;
         self.add(item)
     }
 }

@@ -1,18 +1,19 @@
 //! What is tried where all lines have been read.
-ghost use Rattle.std.specs.Prelude.{◌≡◌, ◌≤◌, ◌<◌, ◌*◌, ◌&&◌, ◌||◌, Ok, Err, MatchResult, nat_lt, not, length};
+ghost use Rattle.std.specs.Prelude.{◌≡◌, ◌≤◌, ◌<◌, ◌*◌, ◌&&◌, ◌||◌, nat_lt, not, length};
 ghost use Rattle.std.specs.List.{list_all, list_any};
 ghost use Rattle.svsm_steps.specs.Image.{range_of, owner_in, is_held_large, pages_of};
 ghost use Rattle.svsm_steps.specs.Sound.{is_accepted, has_vmsa};
-ghost use Rattle.image_reader.specs.Told.{holds};
-ghost use Rattle.image_reader.specs.End.{state_in, rights_in, are_alike, are_same, is_vmsa, is_even, are_even, is_module_assigned, is_guest_shared, are_free, same, are_seats, end_told};
+ghost use Rattle.image_grammar.specs.Told.{holds, Tells};
+ghost use Rattle.image_grammar.specs.End.{state_in, rights_in, are_alike, are_same, is_vmsa_page, is_even, are_even, is_module_assigned, is_guest_shared, are_free, same, are_seats, end_told};
 ghost use Rattle.image_reader.specs.Draft.{IsDraft};
 
 use crate::draft::{Draft, is_seat};
-use crate::kind::ImageKind;
 use crate::told::holds;
+use image_grammar::{ImageKind, LineError};
+use std::alloc::Global;
 use svsm_types::{HwState, Owner, Page, Range};
 
-fn owner_in(range: Option<Range>) -> Owner
+pub fn owner_in(range: Option<Range>) -> Owner
     ensures { result ≡ owner_in range }
 {
     match range {
@@ -46,7 +47,7 @@ fn are_alike(a: Option<Range>, b: Option<Range>) -> bool
 }
 
 fn is_vmsa(page: Option<Range>) -> bool
-    ensures { result ≡ is_vmsa page }
+    ensures { result ≡ is_vmsa_page page }
 {
     owner_in(page) == Owner::Vmsa
 }
@@ -78,7 +79,7 @@ impl Draft {
     }
 
     // The range of a page of the map.
-    fn range_at(&self, page: u64) -> Option<Range>
+    pub fn range_at(&self, page: u64) -> Option<Range>
         requires whole { IsDraft self.now }
         requires within { page < 512 * self.now.image.regions }
         ensures { result ≡ range_of self.now.image page }
@@ -96,7 +97,7 @@ impl Draft {
     }
 
     // Whether a region of the map is held as 2M.
-    fn is_large(&self, region: u64) -> bool
+    pub fn is_large(&self, region: u64) -> bool
         requires whole { IsDraft self.now }
         requires within { region < self.now.image.regions }
         ensures { result ≡ is_held_large self.now.image region }
@@ -135,7 +136,7 @@ impl Draft {
     fn is_right_seat(&self, page: u64) -> bool
         requires whole { IsDraft self.now }
         requires within { page < 512 * self.now.image.regions }
-        ensures { result ≡ same (list_any (has_vmsa page) self.now.image.cores) (is_vmsa (range_of self.now.image page)) }
+        ensures { result ≡ same (list_any (has_vmsa page) self.now.image.cores) (is_vmsa_page (range_of self.now.image page)) }
     {
         is_seat(self.image.cores.as_slice(), Page(page)) == is_vmsa(self.range_at(page))
     }
@@ -194,13 +195,16 @@ impl Draft {
     }
 
     /// The tests of the whole image, in their order.
-    pub fn try_end(&self) -> Result<(), ImageKind>
+    pub fn try_end(&self, alloc: Global) -> Result<(), LineError>
         requires { IsDraft self.now }
-        ensures { MatchResult result (λ _. end_told self.now.image ≡ Ok self.now.image) (λ kind. end_told self.now.image ≡ Err kind) }
+        ensures { Tells (λ _. self.now.image) (end_told self.now.image) result }
     {
         holds(ImageKind::Large, self.are_even())?;
         holds(ImageKind::Ghcb, self.has_ghcb())?;
         holds(ImageKind::Accept, self.are_free())?;
-        holds(ImageKind::Core, self.has_cores())
+        holds(ImageKind::Core, self.has_cores())?;
+        let has_blocks = self.has_blocks(alloc)?;
+        holds(ImageKind::Block, has_blocks)?;
+        Ok(())
     }
 }

@@ -1,18 +1,18 @@
 //! Lines on what the host answers.
 ghost use Rattle.std.specs.Prelude.{◌≡◌, map, IfOk, IsTrue};
 ghost use Rattle.svsm_steps.specs.Sound.{is_in_limits};
-ghost use Rattle.image_reader.specs.Told.{told};
-ghost use Rattle.image_reader.specs.Words.{value_word, event_word};
-ghost use Rattle.image_reader.specs.Forms.{value_of, event_of, limited, value_in, event_in, host_line};
+ghost use Rattle.image_grammar.specs.Told.{told};
+ghost use Rattle.image_grammar.specs.Words.{value_word, event_word};
+ghost use Rattle.image_grammar.specs.Forms.{host_value, event_of, limited, value_in, ap_in, event_in, host_line};
 
-use crate::kind::ImageKind;
 use crate::told::{holds, number};
-use crate::words::{EventWord, ValueWord, event_word, value_word};
+use crate::words::{event_word, is_word, value_word};
+use image_grammar::{EventWord, ImageKind, ValueWord};
 use svsm_types::HostLine;
 
 const MOST_ENTRIES: u64 = 253;
 
-const MOST_CORES: u64 = 16;
+const MOST_CORES: u64 = 64;
 
 fn value_named(field: &[u8]) -> Result<ValueWord, ImageKind>
     ensures { result ≡ told ImageKind.Line (value_word field.now) }
@@ -27,7 +27,7 @@ fn event_named(field: &[u8]) -> Result<EventWord, ImageKind>
 }
 
 fn value_of(word: ValueWord, value: u64) -> Result<HostLine, ImageKind>
-    ensures told { result ≡ limited (value_of word value) }
+    ensures told { result ≡ limited (host_value word value) }
     ensures within { IfOk result (λ line. IsTrue (is_in_limits line)) }
 {
     match word {
@@ -98,6 +98,19 @@ fn value_in(word: &[u8], value: &[u8]) -> Result<HostLine, ImageKind>
     value_of(word, value)
 }
 
+fn ap_in(word: &[u8], exit: &[u8], error: &[u8]) -> Result<HostLine, ImageKind>
+    ensures told { result ≡ ap_in word.now exit.now error.now }
+    ensures within { IfOk result (λ line. IsTrue (is_in_limits line)) }
+{
+    holds(ImageKind::Line, is_word(word, "ap"))?;
+    let exit = number(exit)?;
+    let error = number(error)?;
+    Ok(HostLine::Ap {
+        number: exit,
+        error,
+    })
+}
+
 fn event_in(word: &[u8], a: &[u8], b: &[u8], c: &[u8]) -> Result<HostLine, ImageKind>
     ensures told { result ≡ event_in word.now a.now b.now c.now }
     ensures within { IfOk result (λ line. IsTrue (is_in_limits line)) }
@@ -116,6 +129,7 @@ pub fn host_line(fields: &[&[u8]]) -> Result<HostLine, ImageKind>
 {
     match fields {
         [word, value] => value_in(word, value),
+        [word, exit, error] => ap_in(word, exit, error),
         [word, a, b, c] => event_in(word, a, b, c),
         _ => Err(ImageKind::Line),
     }

@@ -1,11 +1,11 @@
 //! Lines of regions and pages: `large`, `accept` and `fault`.
 ghost use Rattle.std.specs.Prelude.{◌≡◌, ◌≤◌, nat_lt, map, IfOk, IsTrue};
 ghost use Rattle.svsm_steps.specs.Sound.{is_sound_span};
-ghost use Rattle.image_reader.specs.Forms.{large_line, accept_line, fault_line};
+ghost use Rattle.image_grammar.specs.Forms.{large_line, accept_line, fault_line};
 
-use crate::kind::ImageKind;
 use crate::range_line::is_run;
 use crate::told::{holds, number};
+use image_grammar::ImageKind;
 use svsm_types::{FaultAt, Page, Span};
 
 /// The region of a `large` line.
@@ -25,7 +25,7 @@ pub fn large_line(regions: u64, fields: &[&[u8]]) -> Result<u64, ImageKind>
 
 /// The pages of an `accept` line.
 pub fn accept_line(regions: u64, fields: &[&[u8]]) -> Result<Span, ImageKind>
-    requires { regions ≤ 64 }
+    requires { regions ≤ 512 }
     ensures told { result ≡ accept_line regions (map (λ field. field.now) fields.entry.now) }
     ensures within { IfOk result (λ span. IsTrue (is_sound_span regions span)) }
 {

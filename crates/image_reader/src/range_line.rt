@@ -1,13 +1,13 @@
 //! Lines that name the owner and the state of pages.
 ghost use Rattle.std.specs.Prelude.{◌≡◌, ◌≤◌, ◌&&◌, nat_le, map, IfOk, IsTrue};
 ghost use Rattle.svsm_steps.specs.Sound.{is_range_in_map};
-ghost use Rattle.image_reader.specs.Told.{told};
-ghost use Rattle.image_reader.specs.Words.{owner_word, state_word};
-ghost use Rattle.image_reader.specs.Forms.{is_run, range_in, range_line};
+ghost use Rattle.image_grammar.specs.Told.{told};
+ghost use Rattle.image_grammar.specs.Words.{owner_word, state_word};
+ghost use Rattle.image_grammar.specs.Forms.{is_run, range_in, range_line};
 
-use crate::kind::ImageKind;
 use crate::told::{holds, number};
 use crate::words::{owner_word, state_word};
+use image_grammar::ImageKind;
 use svsm_types::{HwState, Owner, Page, Range};
 
 const MOST_RIGHTS: u64 = 0xfff;
@@ -26,7 +26,7 @@ fn state_of(field: &[u8]) -> Result<HwState, ImageKind>
 
 /// One page or more, all in the map.
 pub fn is_run(regions: u64, first: u64, count: u64) -> bool
-    requires { regions ≤ 64 }
+    requires { regions ≤ 512 }
     ensures { result ≡ is_run regions first count }
 {
     let pages = 512 * regions;
@@ -35,7 +35,7 @@ pub fn is_run(regions: u64, first: u64, count: u64) -> bool
 
 // The run is in the map, and the rights are of three levels.
 fn is_range(regions: u64, first: u64, count: u64, rights: u64) -> bool
-    requires { regions ≤ 64 }
+    requires { regions ≤ 512 }
     ensures { result ≡ is_run regions first count && nat_le rights 0xfff }
 {
     is_run(regions, first, count) && rights <= MOST_RIGHTS
@@ -49,7 +49,7 @@ fn range_in(
     state: &[u8],
     rights: &[u8],
 ) -> Result<Range, ImageKind>
-    requires { regions ≤ 64 }
+    requires { regions ≤ 512 }
     ensures told { result ≡ range_in regions first.now count.now owner.now state.now rights.now }
     ensures within { IfOk result (λ range. IsTrue (is_range_in_map regions range)) }
 {
@@ -70,7 +70,7 @@ fn range_in(
 
 /// The range of a `range` line, by the fields behind the word.
 pub fn range_line(regions: u64, fields: &[&[u8]]) -> Result<Range, ImageKind>
-    requires { regions ≤ 64 }
+    requires { regions ≤ 512 }
     ensures told { result ≡ range_line regions (map (λ field. field.now) fields.entry.now) }
     ensures within { IfOk result (λ range. IsTrue (is_range_in_map regions range)) }
 {

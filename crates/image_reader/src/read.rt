@@ -1,13 +1,13 @@
 //! Reading a whole text.
 ghost use Rattle.std.specs.Prelude.{◌≡◌, IfOk};
 ghost use Rattle.svsm_steps.specs.Sound.{IsSound};
-ghost use Rattle.image_reader.specs.Told.{Answers};
-ghost use Rattle.image_reader.specs.Image.{image_of};
+ghost use Rattle.image_grammar.specs.Told.{Answers};
+ghost use Rattle.image_grammar.specs.Image.{image_of};
 
 use crate::draft::Draft;
 use crate::head::read_head;
-use crate::kind::ImageError;
-use crate::lines::read_lines;
+use crate::lines::{failing, read_lines};
+use image_grammar::ImageError;
 use std::alloc::Global;
 use svsm_types::Image;
 
@@ -18,10 +18,10 @@ pub fn read_image(alloc: Global, bytes: &[u8]) -> Result<Image, ImageError>
     ensures sound { IfOk result IsSound }
 {
     let head = read_head(alloc, bytes)?;
-    let empty = Draft::new(alloc, head.regions, head.vmpl, head.features, head.ghcb)?;
+    let empty = Draft::new(alloc, head.regions, head.levels, head.features, head.ghcb)?;
     let draft = read_lines(alloc, bytes, head.next, empty)?;
-    match draft.try_end() {
+    match draft.try_end(alloc) {
         Ok(()) => Ok(draft.image),
-        Err(kind) => Err(ImageError::Bad { line: 0, kind }),
+        Err(error) => Err(failing(0, error)),
     }
 }

@@ -1,38 +1,9 @@
 //! The words of an image.
 ghost use Rattle.std.specs.Prelude.{◌≡◌, bytes_eq};
-ghost use Rattle.image_reader.specs.Words.{line_word, owner_word, state_word, value_word, event_word};
+ghost use Rattle.image_grammar.specs.Words.{line_word, format_word, owner_word, state_word, value_word, event_word};
 
+use image_grammar::{EventWord, Format, LineWord, ValueWord};
 use svsm_types::{HwState, Owner};
-
-/// The first word of a line behind the first five.
-#[derive(Clone, Copy, Debug, PartialEq, Eq)]
-pub enum LineWord {
-    Range,
-    Large,
-    Accept,
-    Core,
-    Bytes,
-    Fault,
-    Host,
-}
-
-/// The second word of a `host` line with one number.
-#[derive(Clone, Copy, Debug, PartialEq, Eq)]
-pub enum ValueWord {
-    Info,
-    Features,
-    Share,
-    Ghcb,
-    Step,
-}
-
-/// The second word of a `host` line with three numbers.
-#[derive(Clone, Copy, Debug, PartialEq, Eq)]
-pub enum EventWord {
-    Exit,
-    Change,
-    Run,
-}
 
 /// Whether a field is this word.
 pub fn is_word(field: &[u8], word: &str) -> bool
@@ -58,6 +29,24 @@ pub fn line_word(word: &[u8]) -> Option<LineWord>
         Some(LineWord::Fault)
     } else if is_word(word, "host") {
         Some(LineWord::Host)
+    } else if is_word(word, "pool") {
+        Some(LineWord::Pool)
+    } else if is_word(word, "block") {
+        Some(LineWord::Block)
+    } else if is_word(word, "announce") {
+        Some(LineWord::Announce)
+    } else {
+        None
+    }
+}
+
+pub fn format_word(word: &[u8]) -> Option<Format>
+    ensures { result ≡ format_word word.now }
+{
+    if is_word(word, "1") {
+        Some(Format::One)
+    } else if is_word(word, "2") {
+        Some(Format::Two)
     } else {
         None
     }

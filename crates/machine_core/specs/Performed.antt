@@ -26,42 +26,49 @@ listed_at registry constants numbers state step = None
 abbrev pub listed_in : Standing → Step → Option ℕ
 listed_in machine step = listed_at (kind step) machine.constants machine.numbers machine.state step
 
--- the step gave this answer and left the state so, where at most one micro-operation is struck
-pub record PerformsAs (struck : Option ℕ) (constants : Constants) (old : State) (step : Step) (answer : Answer)
-    (new : State) : Type 0 where
-  pub may : MayGive (kind step) constants old step answer
-  pub after : new ≡ next_by (kind step) constants old step answer
+-- the step of a core gave this answer and left the state so, where at most one micro-operation is struck
+pub record PerformsAs (struck : Option ℕ) (constants : Constants) (old : State) (core : ℕ) (step : Step)
+    (answer : Answer) (new : State) : Type 0 where
+  pub may : MayGive (kind step) constants old core step answer
+  pub after : new ≡ next_by (kind step) constants old core step answer
   -- unless it was struck, a fault is the first that is due, where no operation number is listed
   pub due : (numbers : ℕ → Numbers) → ((region : ℕ) → (numbers region).faulting ≡ [])
       → hits struck (fault_at answer) ≡ false → fault_at answer ≡ due_at (kind step) constants numbers old step
   -- it is struck where the step may fault there
-  pub exact : (done : ℕ) → struck ≡ Some done → MayGive (kind step) constants old step (Fault done) → answer ≡ Fault done
+  pub exact : (done : ℕ) → struck ≡ Some done → MayGive (kind step) constants old core step (Fault done) → answer ≡ Fault done
   -- where it is struck at the first operation that is listed, a fault is the first that is due
   pub listed : (numbers : ℕ → Numbers) → struck ≡ listed_at (kind step) constants numbers old step
       → fault_at answer ≡ due_at (kind step) constants numbers old step
 
--- the machine's answer to a step, where at most one micro-operation is struck
-abbrev pub Answers : Option ℕ → Step → Answer → Standing → Type 0
-Answers struck step answer machine =
-    PerformsAs struck machine.constants machine.state step answer
-    (next_by (kind step) machine.constants machine.state step answer)
+-- the machine's answer to a step of a core, where at most one micro-operation is struck
+abbrev pub Answers : Option ℕ → ℕ → Step → Answer → Standing → Type 0
+Answers struck core step answer machine =
+    PerformsAs struck machine.constants machine.state core step answer
+    (next_by (kind step) machine.constants machine.state core step answer)
 
--- the step of a region was carried out, and made so many operations, which are not counted yet
+-- the step of a region was carried out, whichever core it is of, and made so many operations, which are not counted yet
 pub record Carries (struck : Option ℕ) (step : Step) (carried : Carried) (old new : Standing) : Type 0 where
-  pub performs : PerformsAs struck old.constants old.state step carried.answer new.state
+  pub performs : (core : ℕ) → PerformsAs struck old.constants old.state core step carried.answer new.state
   pub makes : Makes (own_region old.constants step old.state) step carried.answer carried.operations
   pub numbers : new.numbers ≡ old.numbers
 
 -- the step was carried out with this answer, where at most one micro-operation is struck, and its operations were counted
-pub record SteppedAs (struck : Option ℕ) (step : Step) (answer : Answer) (old new : Standing) : Type 0 where
-  pub performs : PerformsAs struck old.constants old.state step answer new.state
+pub record SteppedAs (struck : Option ℕ) (core : ℕ) (step : Step) (answer : Answer) (old new : Standing) : Type 0 where
+  pub performs : PerformsAs struck old.constants old.state core step answer new.state
   pub numbers : new.numbers ≡ numbers_after (kind step) old.constants old.numbers old.state step answer
 
+-- a step with this answer makes so many operations of the platform, the one that faults among them; at the pool and the registry
+-- it makes none
+abbrev pub MakesAs : Kind → Constants → State → Step → Answer → ℕ → Type 0
+MakesAs region constants state step answer count = Makes (own_region constants step state) step answer count
+MakesAs pool constants state step answer count = count ≡ 0
+MakesAs registry constants state step answer count = count ≡ 0
+
 -- the step was carried out with this answer, and its operations were counted
-pub record Stepped (step : Step) (answer : Answer) (old new : Standing) : Type 0 where
+pub record Stepped (core : ℕ) (step : Step) (answer : Answer) (old new : Standing) : Type 0 where
   -- an answer of the step relation, and the state after it
-  pub may : MayGive (kind step) old.constants old.state step answer
-  pub after : new.state ≡ next_by (kind step) old.constants old.state step answer
+  pub may : MayGive (kind step) old.constants old.state core step answer
+  pub after : new.state ≡ next_by (kind step) old.constants old.state core step answer
   -- a fault exactly where an operation is due to fault, and then at the first of them
   pub due : fault_at answer ≡ due_at (kind step) old.constants old.numbers old.state step
   pub numbers : new.numbers ≡ numbers_after (kind step) old.constants old.numbers old.state step answer

@@ -5,7 +5,8 @@ ghost use Rattle.svsm_steps.specs.Formed.{IsWellFormed};
 ghost use Rattle.vcpu_registry.specs.Spare.{HasSpareFor};
 ghost use Rattle.machine_region.specs.Kinds.{is_of_region, is_of_pool, is_of_registry};
 ghost use Rattle.machine_core.specs.Boots.{counted_at};
-ghost use Rattle.machine_core.specs.Performed.{Carries, Stepped, SteppedAs, listed_in};
+ghost use Rattle.machine_core.specs.Performed.{Carries, MakesAs, Stepped, SteppedAs, listed_in};
+ghost use Rattle.svsm_steps.specs.Machine.{kind};
 ghost use Rattle.machine_core.specs.Standing.{Unchanged, standing_of};
 ghost use Rattle.machine_core.specs.Views.{state_of, constants_of, numbers_of};
 
@@ -15,6 +16,17 @@ use machine_region::Carried;
 use std::alloc::Global;
 use svsm_steps::{Answer, Step, place_of};
 use svsm_types::{NoMemory, Page, RmpRow, Row, region_of};
+
+// The pool and the registry have no operations.
+fn uncounted(answer: Answer) -> Carried
+    ensures answer { result.answer ≡ answer }
+    ensures operations { result.operations ≡ 0 }
+{
+    Carried {
+        answer,
+        operations: 0,
+    }
+}
 
 impl Machine {
     fn carry_out(&mut self, step: &Step, struck: Option<u8>) -> Result<Carried, NoMemory>
@@ -37,26 +49,37 @@ impl Machine {
         self.operations[region as usize].count(operations);
     }
 
-    fn region_step(&mut self, step: &Step, struck: Option<u8>) -> Result<Answer, NoMemory>
+    fn region_step(
+        &mut self,
+        core: u32,
+        step: &Step,
+        struck: Option<u8>,
+    ) -> Result<Carried, NoMemory>
         requires formed { IsWellFormed (constants_of self.old).regions step.now }
         requires region { is_of_region step.now ≡ true }
-        ensures ok { IfOk result (λ answer. SteppedAs struck step.now answer (standing_of self.old) (standing_of self.new)) }
+        ensures ok { IfOk result (λ carried. SteppedAs struck core step.now carried.answer (standing_of self.old) (standing_of self.new)) }
+        ensures makes { IfOk result (λ carried.
+            MakesAs (kind step.now) (constants_of self.old) (state_of self.old) step.now carried.answer carried.operations) }
         ensures err { OnErr result (Unchanged (standing_of self.old) (standing_of self.new)) }
         ensures constants { constants_of self.new ≡ constants_of self.old }
     {
         let carried = self.carry_out(step, struck)?;
         let place = place_of(self.regions.len() as u64, step);
         self.count(place, carried.operations);
-        Ok(carried.answer)
+        Ok(carried)
     }
 
-    fn pool_step(&mut self, step: &Step, struck: Option<u8>) -> Result<Answer, NoMemory>
-        requires { is_of_pool step.now ≡ true }
-        ensures ok { IfOk result (λ answer. SteppedAs struck step.now answer (standing_of self.old) (standing_of self.new)) }
+    fn pool_step(&mut self, core: u32, step: &Step, struck: Option<u8>) -> Result<Carried, NoMemory>
+        requires formed { IsWellFormed (constants_of self.old).regions step.now }
+        requires pool { is_of_pool step.now ≡ true }
+        ensures ok { IfOk result (λ carried. SteppedAs struck core step.now carried.answer (standing_of self.old) (standing_of self.new)) }
+        ensures makes { IfOk result (λ carried.
+            MakesAs (kind step.now) (constants_of self.old) (state_of self.old) step.now carried.answer carried.operations) }
         ensures err { OnErr result (Unchanged (standing_of self.old) (standing_of self.new)) }
         ensures constants { constants_of self.new ≡ constants_of self.old }
     {
-        pool::step(&mut self.blocks, step)
+        let answer = pool::step(&mut self.blocks, self.split, step)?;
+        Ok(uncounted(answer))
     }
 
     // Makes room for the row that a Reserve adds.
@@ -70,29 +93,44 @@ impl Machine {
         }
     }
 
-    fn registry_step(&mut self, step: &Step, struck: Option<u8>) -> Result<Answer, NoMemory>
+    fn registry_step(
+        &mut self,
+        core: u32,
+        step: &Step,
+        struck: Option<u8>,
+    ) -> Result<Carried, NoMemory>
         requires { is_of_registry step.now ≡ true }
-        ensures ok { IfOk result (λ answer. SteppedAs struck step.now answer (standing_of self.old) (standing_of self.new)) }
+        ensures ok { IfOk result (λ carried. SteppedAs struck core step.now carried.answer (standing_of self.old) (standing_of self.new)) }
+        ensures makes { IfOk result (λ carried.
+            MakesAs (kind step.now) (constants_of self.old) (state_of self.old) step.now carried.answer carried.operations) }
         ensures err { OnErr result (Unchanged (standing_of self.old) (standing_of self.new)) }
         ensures constants { constants_of self.new ≡ constants_of self.old }
     {
         self.make_room(step)?;
-        Ok(self.registry.act(step))
+        let answer = self.registry.act(core, step);
+        Ok(uncounted(answer))
     }
 
-    /// Carries out a step, in which at most one micro-operation is struck by a fault.
-    pub(crate) fn step_as(&mut self, step: &Step, struck: Option<u8>) -> Result<Answer, NoMemory>
+    /// Carries out a step of a core, in which at most one micro-operation is struck by a fault.
+    pub(crate) fn step_as(
+        &mut self,
+        core: u32,
+        step: &Step,
+        struck: Option<u8>,
+    ) -> Result<Carried, NoMemory>
         requires formed { IsWellFormed (constants_of self.old).regions step.now }
-        ensures ok { IfOk result (λ answer. SteppedAs struck step.now answer (standing_of self.old) (standing_of self.new)) }
+        ensures ok { IfOk result (λ carried. SteppedAs struck core step.now carried.answer (standing_of self.old) (standing_of self.new)) }
+        ensures makes { IfOk result (λ carried.
+            MakesAs (kind step.now) (constants_of self.old) (state_of self.old) step.now carried.answer carried.operations) }
         ensures err { OnErr result (Unchanged (standing_of self.old) (standing_of self.new)) }
         ensures constants { constants_of self.new ≡ constants_of self.old }
     {
         if is_of_region(step) {
-            self.region_step(step, struck)
+            self.region_step(core, step, struck)
         } else if is_of_pool(step) {
-            self.pool_step(step, struck)
+            self.pool_step(core, step, struck)
         } else {
-            self.registry_step(step, struck)
+            self.registry_step(core, step, struck)
         }
     }
 
@@ -105,8 +143,8 @@ impl Machine {
         self.regions[place as usize].first_listed(step, &self.operations[place as usize])
     }
 
-    // The micro-operation at which a listed operation strikes a step.
-    fn listed(&self, step: &Step) -> Option<u8>
+    /// The micro-operation at which a listed operation strikes a step.
+    pub(crate) fn listed(&self, step: &Step) -> Option<u8>
         requires formed { IsWellFormed (constants_of self.now).regions step.now }
         ensures { result ≡ listed_in (standing_of self.now) step.now }
     {
@@ -117,15 +155,16 @@ impl Machine {
         }
     }
 
-    /// The machine's one answer. Want of memory leaves the machine as it was.
-    pub fn step(&mut self, _alloc: Global, step: &Step) -> Result<Answer, NoMemory>
+    /// The machine's one answer to a step of a core. Want of memory leaves the machine as it was.
+    pub fn step(&mut self, _alloc: Global, core: u32, step: &Step) -> Result<Answer, NoMemory>
         requires { IsWellFormed (constants_of self.old).regions step.now }
-        ensures ok { IfOk result (λ answer. Stepped step.now answer (standing_of self.old) (standing_of self.new)) }
+        ensures ok { IfOk result (λ answer. Stepped core step.now answer (standing_of self.old) (standing_of self.new)) }
         ensures err { OnErr result (Unchanged (standing_of self.old) (standing_of self.new)) }
         ensures constants { constants_of self.new ≡ constants_of self.old }
     {
         let struck = self.listed(step);
-        self.step_as(step, struck)
+        let carried = self.step_as(core, step, struck)?;
+        Ok(carried.answer)
     }
 
     /// All that stands of a page.

@@ -1,6 +1,6 @@
 //! The places of the module: each region, the deposit pool and the registry of vCPUs, with the log of what each answered.
 //!
-//! `open_regions`, `open_pool` and `open_places` make them of an image, and `Turns` takes them in turn.
+//! `open_regions`, `open_pool`, `open_split` and `open_places` make them of an image, and `Turns` takes them in turn.
 #![tactic(auto)]
 
 mod blocks;
@@ -12,11 +12,9 @@ mod place;
 mod regions;
 mod reopened;
 mod start;
-#[cfg(test)]
-mod tests;
 mod turns;
 
-pub use blocks::open_pool;
+pub use blocks::{open_pool, open_split};
 pub use kind::Kind;
 pub use open::open_places;
 pub use place::Place;

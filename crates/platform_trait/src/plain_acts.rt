@@ -116,6 +116,8 @@ impl PlainRmp {
 impl Rmp for PlainRmp {
     ghost known = { plain_known };
 
+    ghost sized = { λ p. p.sized };
+
     fn large(&self) -> bool {
         self.large
     }
@@ -188,6 +190,10 @@ impl Rmp for PlainRmp {
 impl Scene for PlainRmp {
     fn word(&self, gpa: Gpa) -> u64 {
         self.words.word(gpa)
+    }
+
+    fn touched(&self, page: Page) -> bool {
+        self.words.has_word(page)
     }
 
     fn guest_read(&self, vmpl: Vmpl, gpa: Gpa) -> Option<u64> {

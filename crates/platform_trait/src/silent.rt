@@ -12,6 +12,8 @@ pub struct Silent<R>(pub R);
 impl<R: Rmp> Rmp for Silent<R> {
     ghost known = { λ p. record (R.known p.0) { told = None } };
 
+    ghost sized = { λ p. R.sized p.0 };
+
     fn large(&self) -> bool {
         self.0.large()
     }
@@ -55,6 +57,10 @@ impl<R: Rmp> Rmp for Silent<R> {
 impl<R: Scene> Scene for Silent<R> {
     fn word(&self, gpa: Gpa) -> u64 {
         self.0.word(gpa)
+    }
+
+    fn touched(&self, page: Page) -> bool {
+        self.0.touched(page)
     }
 
     fn guest_read(&self, vmpl: Vmpl, gpa: Gpa) -> Option<u64> {

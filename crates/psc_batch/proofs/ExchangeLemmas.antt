@@ -4,8 +4,8 @@ use Rattle.std.proofs.lemmas.Grind.{common_steps}
 use Rattle.psc_batch.specs.declared.error.PscError.{PscError}
 use Rattle.psc_batch.specs.declared.error.PscError.TheVariants.{Said, End, Back, Past, Stalled}
 use Rattle.ghcb_page.specs.Fields.{info1_of, info2_of, is_quiet}
-use Rattle.psc_batch.specs.Host.{Event, asked, exited}
-use Rattle.psc_batch.specs.Exchange.{IsExchangeFrom, Ends, Sends, ending, refusal, progress, refused_or, stalls_after, change_from, cur_of, end_of, end_index, sent_page}
+use Rattle.psc_batch.specs.Host.{HostEvent, asked, exited}
+use Rattle.psc_batch.specs.Exchange.{IsExchangeFrom, Ends, Sends, ending, exchange_refusal, progress, refused_or, stalls_after, change_from, cur_of, end_of, end_index, sent_page}
 
 -- a test that chose a value
 pub chosen : {A : Type 0} {x y z : A} (b : Bool) → cond b x y ≡ z → ((b ≡ true) × (x ≡ z)) ⊎ ((b ≡ false) × (y ≡ z))
@@ -23,7 +23,7 @@ passed true x y h = cc
 passed false x y h = (refl, h)
 
 -- the index that came back is not behind and within
-pub unrefused : (entries : List ℕ) (cur : ℕ) (got : List ℕ) → refusal entries cur got ≡ None → (nat_lt (cur_of got) cur ≡ false) × (nat_lt (end_index entries + 1) (cur_of got) ≡ false)
+pub unrefused : (entries : List ℕ) (cur : ℕ) (got : List ℕ) → exchange_refusal entries cur got ≡ None → (nat_lt (cur_of got) cur ≡ false) × (nat_lt (end_index entries + 1) (cur_of got) ≡ false)
 unrefused entries cur got h =
     let quiet = passed (not (is_quiet got)) (Said (info1_of got) (info2_of got)) _ h in
     let end = passed (not (end_of got == end_index entries)) (End (end_index entries) (end_of got)) _ quiet.1 in
@@ -59,7 +59,7 @@ goes_on entries cur stalls got within few h =
     numbers (length entries) cur stalls (cur_of got) within few index.0 index.1 on.0 on.1
 
 -- at most 64 exits for each entry that is left
-pub bounded : (entries : List ℕ) (cur stalls : ℕ) (events : List Event) (result : Result (Unit {0}) PscError) → cur < length entries → stalls < 64 → Ends entries cur stalls events result → length events + stalls ≤ 64 * (length entries - cur)
+pub bounded : (entries : List ℕ) (cur stalls : ℕ) (events : List HostEvent) (result : Result (Unit {0}) PscError) → cur < length entries → stalls < 64 → Ends entries cur stalls events result → length events + stalls ≤ 64 * (length entries - cur)
 bounded entries cur stalls [] result within few h = absurd h
 bounded entries cur stalls (asked sent got ∷ events) result within few h = absurd h
 bounded entries cur stalls (exited sent got ∷ []) result within few h = omega arith
@@ -69,7 +69,7 @@ bounded entries cur stalls (exited sent got ∷ (event ∷ events)) result withi
     omega arith
 
 -- the exits of an exchange that goes on after its first one
-pub longer : (buffer : ℕ) (entries : List ℕ) (cur stalls : ℕ) (old got : List ℕ) (sent : List ℕ) (cur' stalls' : ℕ) (events : List Event) (result : Result (Unit {0}) PscError) (new : List ℕ) → sent ≡ sent_page buffer entries cur old → ending entries cur stalls got ≡ None → cur' ≡ cur_of got → stalls' ≡ stalls_after cur stalls got → IsExchangeFrom buffer entries cur' stalls' got events result new → IsExchangeFrom buffer entries cur stalls old (exited sent got ∷ events) result new
+pub longer : (buffer : ℕ) (entries : List ℕ) (cur stalls : ℕ) (old got : List ℕ) (sent : List ℕ) (cur' stalls' : ℕ) (events : List HostEvent) (result : Result (Unit {0}) PscError) (new : List ℕ) → sent ≡ sent_page buffer entries cur old → ending entries cur stalls got ≡ None → cur' ≡ cur_of got → stalls' ≡ stalls_after cur stalls got → IsExchangeFrom buffer entries cur' stalls' got events result new → IsExchangeFrom buffer entries cur stalls old (exited sent got ∷ events) result new
 longer buffer entries cur stalls old got sent cur' stalls' [] result new e none back stood rest = absurd rest.ends
 longer buffer entries cur stalls old got sent cur' stalls' (event ∷ events) result new e none back stood rest = record {
   sends = (e, subst (λ n. Sends buffer entries n got (event ∷ events)) back rest.sends);
@@ -78,5 +78,5 @@ longer buffer entries cur stalls old got sent cur' stalls' (event ∷ events) re
 }
 
 -- the same of equal entries
-pub of_equal : (buffer : ℕ) (entries own : List ℕ) (cur stalls : ℕ) (old : List ℕ) (events : List Event) (result : Result (Unit {0}) PscError) (new : List ℕ) → entries ≡ own → IsExchangeFrom buffer entries cur stalls old events result new → IsExchangeFrom buffer own cur stalls old events result new
+pub of_equal : (buffer : ℕ) (entries own : List ℕ) (cur stalls : ℕ) (old : List ℕ) (events : List HostEvent) (result : Result (Unit {0}) PscError) (new : List ℕ) → entries ≡ own → IsExchangeFrom buffer entries cur stalls old events result new → IsExchangeFrom buffer own cur stalls old events result new
 of_equal buffer entries own cur stalls old events result new e h = subst (λ es. IsExchangeFrom buffer es cur stalls old events result new) e h

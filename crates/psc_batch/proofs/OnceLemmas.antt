@@ -5,8 +5,8 @@ use Rattle.std.proofs.lemmas.Bool.{eqb-true}
 use Rattle.std.proofs.lemmas.Bool.Decides.{nat_tests}
 use Rattle.psc_batch.specs.declared.error.PscError.{PscError}
 use Rattle.psc_batch.specs.declared.error.PscError.TheVariants.{Stalled}
-use Rattle.psc_batch.specs.Host.{Event, asked, exited}
-use Rattle.psc_batch.specs.Exchange.{Ends, ending, refused_or, refusal, stalls_after, cur_of, end_index}
+use Rattle.psc_batch.specs.Host.{HostEvent, asked, exited}
+use Rattle.psc_batch.specs.Exchange.{Ends, ending, refused_or, exchange_refusal, stalls_after, cur_of, end_index}
 use Rattle.psc_batch.specs.Once.{is_between, answers_of, GoodExchangesAnswerOnce}
 use Rattle.psc_batch.proofs.ExchangeLemmas.{goes_on}
 
@@ -28,7 +28,7 @@ ended_by false false error h = cc
 -- where an exchange ends well, all entries came back as performed
 ends_at : (entries : List ℕ) (cur stalls : ℕ) (got : List ℕ) → 1 ≤ length entries → ending entries cur stalls got ≡ Some (Ok tt) → cur_of got ≡ length entries
 ends_at entries cur stalls got some h =
-    let ended = ended_by (cur_of got == end_index entries + 1) (stalls_after cur stalls got == 64) (Stalled cur) (well_first (refusal entries cur got) _ h) in
+    let ended = ended_by (cur_of got == end_index entries + 1) (stalls_after cur stalls got == 64) (Stalled cur) (well_first (exchange_refusal entries cur got) _ h) in
     let at = eqb-true (cur_of got) (end_index entries + 1) ended in
     omega arith
 
@@ -38,7 +38,7 @@ last_counts cur back index low = grind (arith, nat_tests)
 more_counts : (cur back index : ℕ) → cur ≤ back → (if is_between cur back index then 1 else 0) + (if nat_le back index then 1 else 0) ≡ (if nat_le cur index then 1 else 0)
 more_counts cur back index ahead = grind (arith, nat_tests)
 
-once : (entries : List ℕ) (cur stalls : ℕ) (events : List Event) (index : ℕ) → cur < length entries → stalls < 64 → index < length entries → Ends entries cur stalls events (Ok tt) → answers_of index cur events ≡ (if nat_le cur index then 1 else 0)
+once : (entries : List ℕ) (cur stalls : ℕ) (events : List HostEvent) (index : ℕ) → cur < length entries → stalls < 64 → index < length entries → Ends entries cur stalls events (Ok tt) → answers_of index cur events ≡ (if nat_le cur index then 1 else 0)
 once entries cur stalls [] index within few low h = absurd h
 once entries cur stalls (asked sent got ∷ events) index within few low h = absurd h
 once entries cur stalls (exited sent got ∷ []) index within few low h =

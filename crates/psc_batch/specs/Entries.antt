@@ -10,6 +10,7 @@ use Rattle.svsm_steps.specs.Image.{entries_between}
 abbrev pub span_entries : List Span → List (ℕ × Size)
 span_entries spans = flat_map (λ (span : Span). entries_between span.first.0 (span.first.0 + span.count)) spans
 
+-- page size of an entry, bit 56: 0 for 4K, 1 for 2M
 abbrev pub size_bit : Size → ℕ
 size_bit Small = 0
 size_bit Large = 1
@@ -19,6 +20,7 @@ size_bit Large = 1
 abbrev pub entry_word : ℕ × Size → ℕ
 entry_word entry = entry.0 * 2 ^ 12 + (2 ^ 52 + size_bit entry.1 * 2 ^ 56)
 
+-- the entries of spans, as they stand in the page
 abbrev pub entry_words : List Span → List ℕ
 entry_words spans = map entry_word (span_entries spans)
 

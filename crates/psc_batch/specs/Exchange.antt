@@ -5,16 +5,19 @@ use Rattle.ghcb_page.specs.Bytes.{with_bytes, with_u16, with_u64, u16_at, u64_at
 use Rattle.ghcb_page.specs.Fields.{begun_exit, info1_of, info2_of, is_quiet}
 use Rattle.psc_batch.specs.declared.error.PscError.{PscError}
 use Rattle.psc_batch.specs.declared.error.PscError.TheVariants.{Said, End, Back, Past, Changed, Stalled}
-use Rattle.psc_batch.specs.Host.{Event, asked, exited}
+use Rattle.psc_batch.specs.Host.{HostEvent, asked, exited}
 
 -- THE SHARED BUFFER: cur_entry, the index of the next entry; end_entry, the index of the last one; 4 bytes that are reserved; the entries
 
+-- the header's current entry (VMGEXIT page-state change, GHCB 2.0)
 abbrev pub cur_of : List ℕ → ℕ
 cur_of page = u16_at 0x800 page
 
+-- the header's end entry
 abbrev pub end_of : List ℕ → ℕ
 end_of page = u16_at 0x802 page
 
+-- an entry of the list by its index
 abbrev pub entry_of : ℕ → List ℕ → ℕ
 entry_of index page = u64_at (0x808 + 8 * index) page
 
@@ -44,8 +47,8 @@ change_from index (entry ∷ entries) got =
     else Some (Changed index entry (entry_of index got))
 
 -- what refuses a page that came back where `cur` was sent; these tests stand in this order
-abbrev pub refusal : List ℕ → ℕ → List ℕ → Option PscError
-refusal entries cur got =
+abbrev pub exchange_refusal : List ℕ → ℕ → List ℕ → Option PscError
+exchange_refusal entries cur got =
     if not (is_quiet got) then Some (Said (info1_of got) (info2_of got))
     else (if not (end_of got == end_index entries) then Some (End (end_index entries) (end_of got))
     else (if nat_lt (cur_of got) cur then Some (Back cur (cur_of got))
@@ -62,6 +65,7 @@ progress end cur stalls back =
     if back == end + 1 then Some (Ok tt)
     else (if stalls == 64 then Some (Err (Stalled cur)) else None)
 
+-- a refusal, where there is one, before what else is told
 abbrev pub refused_or : Option PscError → Option (Result (Unit {0}) PscError) → Option (Result (Unit {0}) PscError)
 refused_or (Some error) other = Some (Err error)
 refused_or None other = other
@@ -69,19 +73,19 @@ refused_or None other = other
 -- how an exchange ends with this exit, where `stalls` exits before it stalled in a row; None where it goes on
 abbrev pub ending : List ℕ → ℕ → ℕ → List ℕ → Option (Result (Unit {0}) PscError)
 ending entries cur stalls got =
-    refused_or (refusal entries cur got) (progress (end_index entries) cur (stalls_after cur stalls got) (cur_of got))
+    refused_or (exchange_refusal entries cur got) (progress (end_index entries) cur (stalls_after cur stalls got) (cur_of got))
 
 -- THE EXCHANGE
 
 -- all exits send the same entries; the first one sends `cur`, and each later one the index that came back before it
-abbrev pub Sends : ℕ → List ℕ → ℕ → List ℕ → List Event → Type 0
+abbrev pub Sends : ℕ → List ℕ → ℕ → List ℕ → List HostEvent → Type 0
 Sends buffer entries cur page [] = ⊤
 Sends buffer entries cur page (asked sent got ∷ events) = ⊥
 Sends buffer entries cur page (exited sent got ∷ events) =
     (sent ≡ sent_page buffer entries cur page) × Sends buffer entries (cur_of got) got events
 
 -- each exit but the last goes on, and the last one ends the exchange with this result
-abbrev pub Ends : List ℕ → ℕ → ℕ → List Event → Result (Unit {0}) PscError → Type 0
+abbrev pub Ends : List ℕ → ℕ → ℕ → List HostEvent → Result (Unit {0}) PscError → Type 0
 Ends entries cur stalls [] result = ⊥
 Ends entries cur stalls (asked sent got ∷ events) result = ⊥
 Ends entries cur stalls (exited sent got ∷ []) result = ending entries cur stalls got ≡ Some result
@@ -89,17 +93,17 @@ Ends entries cur stalls (exited sent got ∷ (event ∷ events)) result =
     (ending entries cur stalls got ≡ None) × Ends entries (cur_of got) (stalls_after cur stalls got) (event ∷ events) result
 
 -- the page as the last exit left it
-abbrev pub left_by : List ℕ → List Event → List ℕ
-left_by page [] = page
-left_by page (asked sent got ∷ events) = left_by page events
-left_by page (exited sent got ∷ events) = left_by got events
+abbrev pub page_left_by : List ℕ → List HostEvent → List ℕ
+page_left_by page [] = page
+page_left_by page (asked sent got ∷ events) = page_left_by page events
+page_left_by page (exited sent got ∷ events) = page_left_by got events
 
 -- the exits of an exchange from an index on
-pub record IsExchangeFrom (buffer : ℕ) (entries : List ℕ) (cur stalls : ℕ) (old : List ℕ) (events : List Event) (result : Result (Unit {0}) PscError) (new : List ℕ) : Type 0 where
+pub record IsExchangeFrom (buffer : ℕ) (entries : List ℕ) (cur stalls : ℕ) (old : List ℕ) (events : List HostEvent) (result : Result (Unit {0}) PscError) (new : List ℕ) : Type 0 where
   pub sends : Sends buffer entries cur old events
   pub ends : Ends entries cur stalls events result
-  pub leaves : new ≡ left_by old events
+  pub leaves : new ≡ page_left_by old events
 
 -- an exchange up to its last exit: Ok where it is good, else what refuses that exit
-abbrev pub IsExchange : ℕ → List ℕ → List ℕ → List Event → Result (Unit {0}) PscError → List ℕ → Type 0
+abbrev pub IsExchange : ℕ → List ℕ → List ℕ → List HostEvent → Result (Unit {0}) PscError → List ℕ → Type 0
 IsExchange buffer entries old events result new = IsExchangeFrom buffer entries 0 0 old events result new

@@ -1,7 +1,7 @@
 //! The shared buffer of the GHCB page.
 ghost use Rattle.std.specs.Prelude.{◌≡◌, ◌+◌, ◌*◌, ◌≤◌, Some, None, [], ◌∷◌, length};
 ghost use Rattle.ghcb_page.specs.Bytes.{with_bytes, with_u16};
-ghost use Rattle.psc_batch.specs.Exchange.{sent_page, with_entries, change_from, refusal, cur_of, end_of, entry_of, end_index};
+ghost use Rattle.psc_batch.specs.Exchange.{sent_page, with_entries, change_from, exchange_refusal, cur_of, end_of, entry_of, end_index};
 
 use crate::PscError;
 use ghcb_page::GhcbPage;
@@ -84,7 +84,7 @@ fn change(entries: &[u64], bytes: &[u8]) -> Option<PscError>
 pub(crate) fn refusal(page: &GhcbPage, entries: &[u64], cur: u16) -> Option<PscError>
     requires some { 1 ≤ length entries.now }
     requires most { length entries.now ≤ 253 }
-    ensures { result ≡ refusal entries.now cur page.now }
+    ensures { result ≡ exchange_refusal entries.now cur page.now }
 {
     if let Err(said) = page.end_exit() {
         return Some(PscError::Said {

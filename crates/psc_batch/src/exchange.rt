@@ -1,6 +1,6 @@
 //! The exchange of a batch with the host.
 ghost use Rattle.std.specs.Prelude.{◌≡◌, ◌+◌, ◌*◌, ◌≤◌, ◌<◌, List, length};
-ghost use Rattle.psc_batch.specs.Host.{Event, Leads};
+ghost use Rattle.psc_batch.specs.Host.{HostEvent, Leads};
 ghost use Rattle.psc_batch.specs.Exchange.{IsExchange, ending, stalls_after};
 
 use crate::buffer::{cur_of, prepare, refusal};
@@ -50,7 +50,7 @@ impl Batch {
         ensures entries { self.new ≡ self.old }
 
         // The exits that were made are an exchange of these entries, and at most 64 for each.
-        ensures made { (events : List Event) × Leads H.answers H.returns host.old events host.new × IsExchange buffer.0 self.old page.old events result page.new × (length events ≤ 64 * length self.old) }
+        ensures made { (events : List HostEvent) × Leads H.answers H.returns host.old events host.new × IsExchange buffer.0 self.old page.old events result page.new × (length events ≤ 64 * length self.old) }
     {
         let entries = self.entries();
         let mut cur = 0;

@@ -33,6 +33,7 @@ fn wait_a_little<R: Wait>(rt: &R, yielded: bool) {
 }
 
 // Takes the lock of a place, and tries until it has it. The seat then has the slot of the place.
+#[inline(always)]
 fn lock<P: PlaceState, R: Wait>(rt: &R, shared: &SharedTable<P>, seat: &mut LockSeat<P>, place: u64)
     requires table { seat.old.table_id ≡ shared.now.table_id }
     requires words { shared.now.table_id.words ≡ lock_word (length shared.now.key.value.items) }
@@ -61,6 +62,7 @@ fn lock<P: PlaceState, R: Wait>(rt: &R, shared: &SharedTable<P>, seat: &mut Lock
 }
 
 // Moves the place out of its slot.
+#[inline(always)]
 fn take_out<P: PlaceState>(shared: &SharedTable<P>, seat: &mut LockSeat<P>, place: u64) -> P
     requires table { seat.old.table_id ≡ shared.now.table_id }
     requires few { place < 1024 }
@@ -75,6 +77,7 @@ fn take_out<P: PlaceState>(shared: &SharedTable<P>, seat: &mut LockSeat<P>, plac
 }
 
 // Moves the place back into its slot.
+#[inline(always)]
 fn put_in<P: PlaceState>(shared: &SharedTable<P>, seat: &mut LockSeat<P>, place: u64, value: P)
     requires table { seat.old.table_id ≡ shared.now.table_id }
     requires few { place < 1024 }
@@ -87,6 +90,7 @@ fn put_in<P: PlaceState>(shared: &SharedTable<P>, seat: &mut LockSeat<P>, place:
 }
 
 // Puts the place back and frees its lock.
+#[inline(always)]
 fn release<P: PlaceState>(shared: &SharedTable<P>, seat: &mut LockSeat<P>, place: u64, value: P)
     requires table { seat.old.table_id ≡ shared.now.table_id }
     requires words { shared.now.table_id.words ≡ lock_word (length shared.now.key.value.items) }
@@ -97,7 +101,6 @@ fn release<P: PlaceState>(shared: &SharedTable<P>, seat: &mut LockSeat<P>, place
         ≡ (Core (core_in seat.old.me.0) (entries_in seat.old.me.0) (Held place x (P.log value)), (slot_of place, None) ∷ []))
         × (P.number value ≡ P.number x)
         × (P.regions value ≡ P.regions x)
-        × (P.apics value ≡ P.apics x)
         × (P.opening value ≡ P.opening x)
         × (P.numbers value ≡ P.numbers x)
         × (P.pending value ≡ None) }
@@ -110,6 +113,7 @@ fn release<P: PlaceState>(shared: &SharedTable<P>, seat: &mut LockSeat<P>, place
 
 // Draws the ticket of the pending step. The place lies in its slot meanwhile, since a seat tells nothing of a value that it
 // has moved out.
+#[inline(always)]
 fn draw<P: PlaceState>(
     shared: &SharedTable<P>,
     seat: &mut LockSeat<P>,
@@ -151,6 +155,7 @@ fn draw<P: PlaceState>(
 
 // Makes a step of a core, which has made so many before. It waits for the step's place, and draws the ticket while it
 // holds it.
+#[inline(always)]
 pub(crate) fn make<P: PlaceState, R: Wait, G: Gate>(
     rt: &R,
     alloc: Global,

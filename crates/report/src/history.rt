@@ -1,9 +1,10 @@
 //! The text of a history.
-ghost use Rattle.std.specs.Prelude.{◌≡◌, ◌++◌, OnErr, OnOk, flat_map};
+ghost use Rattle.std.specs.Prelude.{◌≡◌, ◌≤◌, ◌+◌, ◌∷◌, [], ◌++◌, codes, drop, OnErr, OnOk, flat_map};
 ghost use Rattle.report.specs.Text.{spaced, IsBegun};
-ghost use Rattle.report.specs.History.{size_number, on_number, owner_text, validate_text, step_fields, answer_fields, entry_line, history_text};
+ghost use Rattle.report.specs.History.{size_number, on_number, owner_text, step_fields, answer_fields, entry_line, history_text};
 
-use crate::text::{put_fields, put_newline, put_number, put_numbers, put_text, put_word};
+use crate::line::{byte_before, fields_before, numbers_before, text_before, word_before};
+use crate::text::{put_newline, put_number, put_text};
 use svsm_steps::{Answer, Entry, Step};
 use svsm_types::{NoMemory, Owner, Size};
 
@@ -35,32 +36,40 @@ pub fn owner_text(owner: Owner) -> &'static str
 }
 
 #[tactic(auto, unfolding(crate::specs::History::validate_text))]
-fn validate_text(on: bool) -> &'static str
-    ensures { result.now ≡ validate_text on }
-{
-    if on { "validate" } else { "invalidate" }
-}
-
-#[tactic(auto, using(crate::proofs::FrontLemmas::begun_on))]
-fn put_step(out: &mut Vec<u8>, step: &Step) -> Result<(), NoMemory>
-    ensures ok { OnOk result (out.new.items ≡ out.old.items ++ flat_map spaced (step_fields step.now)) }
-    ensures err { OnErr result (IsBegun out.old.items out.new.items) }
+fn step_before(line: &mut [u8; 256], end: usize, step: &Step) -> usize
+    requires least { 100 ≤ end }
+    requires most { end ≤ 256 }
+    ensures low { end ≤ result + 100 }
+    ensures high { result ≤ end }
+    ensures line { drop result line.new ≡ flat_map spaced (step_fields step.now) ++ drop end line.old }
 {
     match *step {
-        Step::GuestWrite { vmpl, gpa, word } => put_fields(
-            out,
+        Step::GuestWrite { vmpl, gpa, word } => fields_before(
+            line,
+            end,
             "write",
             &[u64::from(vmpl.0), gpa.0, word],
         ),
-        Step::GuestPend { vmpl, gpa } => put_fields(out, "pend", &[u64::from(vmpl.0), gpa.0]),
-        Step::GuestRead { vmpl, gpa } => put_fields(out, "read", &[u64::from(vmpl.0), gpa.0]),
+        Step::GuestPend { vmpl, gpa } => fields_before(
+            line,
+            end,
+            "pend",
+            &[u64::from(vmpl.0), gpa.0],
+        ),
+        Step::GuestRead { vmpl, gpa } => fields_before(
+            line,
+            end,
+            "read",
+            &[u64::from(vmpl.0), gpa.0],
+        ),
         Step::GuestAdjust {
             vmpl,
             page,
             target,
             mask,
-        } => put_fields(
-            out,
+        } => fields_before(
+            line,
+            end,
             "adjust",
             &[
                 u64::from(vmpl.0),
@@ -69,43 +78,75 @@ fn put_step(out: &mut Vec<u8>, step: &Step) -> Result<(), NoMemory>
                 u64::from(mask),
             ],
         ),
-        Step::HostShare { page } => put_fields(out, "share", &[page.0]),
-        Step::HostAssign { page } => put_fields(out, "assign", &[page.0]),
-        Step::TakePending { vmpl, gpa } => put_fields(out, "take", &[u64::from(vmpl.0), gpa.0]),
-        Step::LoadWord { vmpl, gpa } => put_fields(out, "load", &[u64::from(vmpl.0), gpa.0]),
-        Step::StoreNext { vmpl, gpa, next } => put_fields(
-            out,
+        Step::HostShare { page } => fields_before(line, end, "share", &[page.0]),
+        Step::HostAssign { page } => fields_before(line, end, "assign", &[page.0]),
+        Step::TakePending { vmpl, gpa } => fields_before(
+            line,
+            end,
+            "take",
+            &[u64::from(vmpl.0), gpa.0],
+        ),
+        Step::LoadWord { vmpl, gpa } => fields_before(
+            line,
+            end,
+            "load",
+            &[u64::from(vmpl.0), gpa.0],
+        ),
+        Step::StoreNext { vmpl, gpa, next } => fields_before(
+            line,
+            end,
             "next",
             &[u64::from(vmpl.0), gpa.0, u64::from(next)],
         ),
-        Step::StoreEntry { vmpl, gpa, word } => put_fields(
-            out,
+        Step::StoreEntry { vmpl, gpa, word } => fields_before(
+            line,
+            end,
             "entry",
             &[u64::from(vmpl.0), gpa.0, word],
         ),
-        Step::SetAvail { vmpl, gpa, on } => put_fields(
-            out,
+        Step::SetAvail { vmpl, gpa, on } => fields_before(
+            line,
+            end,
             "avail",
             &[u64::from(vmpl.0), gpa.0, on_number(on)],
         ),
-        Step::ClearCaa { vmpl, gpa } => put_fields(out, "caa", &[u64::from(vmpl.0), gpa.0]),
+        Step::ClearCaa { vmpl, gpa } => fields_before(
+            line,
+            end,
+            "caa",
+            &[u64::from(vmpl.0), gpa.0],
+        ),
         Step::Validate {
             vmpl,
             page,
             size,
-            on,
-        } => put_fields(
-            out,
-            validate_text(on),
+            on: true,
+        } => fields_before(
+            line,
+            end,
+            "validate",
             &[u64::from(vmpl.0), page.0, size_number(size)],
         ),
-        Step::Deposit { vmpl, page, size } => put_fields(
-            out,
+        Step::Validate {
+            vmpl,
+            page,
+            size,
+            on: false,
+        } => fields_before(
+            line,
+            end,
+            "invalidate",
+            &[u64::from(vmpl.0), page.0, size_number(size)],
+        ),
+        Step::Deposit { vmpl, page, size } => fields_before(
+            line,
+            end,
             "deposit",
             &[u64::from(vmpl.0), page.0, size_number(size)],
         ),
-        Step::Release { vmpl, page, size } => put_fields(
-            out,
+        Step::Release { vmpl, page, size } => fields_before(
+            line,
+            end,
             "release",
             &[u64::from(vmpl.0), page.0, size_number(size)],
         ),
@@ -113,77 +154,131 @@ fn put_step(out: &mut Vec<u8>, step: &Step) -> Result<(), NoMemory>
             vmpl,
             page,
             features,
-        } => put_fields(out, "vmsa", &[u64::from(vmpl.0), page.0, features]),
-        Step::VmsaDrop { vmpl, page } => put_fields(out, "drop", &[u64::from(vmpl.0), page.0]),
-        Step::PoolPush { page, size } => put_fields(out, "push", &[page.0, size_number(size)]),
-        Step::PoolPop { size } => put_fields(out, "pop", &[size_number(size)]),
-        Step::Reserve { apic, page, caa } => put_fields(
-            out,
+        } => fields_before(line, end, "vmsa", &[u64::from(vmpl.0), page.0, features]),
+        Step::VmsaDrop { vmpl, page } => fields_before(
+            line,
+            end,
+            "drop",
+            &[u64::from(vmpl.0), page.0],
+        ),
+        Step::PoolPush { page, size } => fields_before(
+            line,
+            end,
+            "push",
+            &[page.0, size_number(size)],
+        ),
+        Step::PoolPop { size } => fields_before(line, end, "pop", &[size_number(size)]),
+        Step::Reserve { apic, page, caa } => fields_before(
+            line,
+            end,
             "reserve",
             &[u64::from(apic), page.0, caa.0],
         ),
-        Step::Commit { page } => put_fields(out, "commit", &[page.0]),
-        Step::Cancel { page } => put_fields(out, "cancel", &[page.0]),
-        Step::Retire { page } => put_fields(out, "retire", &[page.0]),
-        Step::Remap { apic, caa } => put_fields(out, "remap", &[u64::from(apic), caa.0]),
-        Step::Enter { apic } => put_fields(out, "enter", &[u64::from(apic)]),
-        Step::Leave { apic } => put_fields(out, "leave", &[u64::from(apic)]),
+        Step::Commit { page } => fields_before(line, end, "commit", &[page.0]),
+        Step::Cancel { page } => fields_before(line, end, "cancel", &[page.0]),
+        Step::Retire { page } => fields_before(line, end, "retire", &[page.0]),
+        Step::Remap { apic, caa } => fields_before(line, end, "remap", &[u64::from(apic), caa.0]),
+        Step::Enter { apic } => fields_before(line, end, "enter", &[u64::from(apic)]),
+        Step::Leave { apic } => fields_before(line, end, "leave", &[u64::from(apic)]),
     }
 }
 
-#[tactic(auto, using(crate::proofs::FrontLemmas::begun_on))]
-fn put_answer(out: &mut Vec<u8>, answer: &Answer) -> Result<(), NoMemory>
-    ensures ok { OnOk result (out.new.items ≡ out.old.items ++ flat_map spaced (answer_fields answer.now)) }
-    ensures err { OnErr result (IsBegun out.old.items out.new.items) }
+fn answer_before(line: &mut [u8; 256], end: usize, answer: &Answer) -> usize
+    requires least { 50 ≤ end }
+    requires most { end ≤ 256 }
+    ensures low { end ≤ result + 50 }
+    ensures high { result ≤ end }
+    ensures line { drop result line.new ≡ flat_map spaced (answer_fields answer.now) ++ drop end line.old }
 {
     match *answer {
-        Answer::Done => put_word(out, "done"),
-        Answer::Word(word) => put_fields(out, "word", &[word]),
-        Answer::Denied => put_word(out, "denied"),
-        Answer::Refused => put_word(out, "refused"),
-        Answer::Unchanged => put_word(out, "unchanged"),
-        Answer::Hw(code) => put_fields(out, "hw", &[u64::from(code)]),
-        Answer::BadVmsa => put_word(out, "badvmsa"),
-        Answer::Strange(owner) => put_strange(out, owner),
-        Answer::Held(count) => put_fields(out, "held", &[count]),
-        Answer::Block { page, left } => put_fields(out, "block", &[page.0, left]),
-        Answer::Empty { left } => put_fields(out, "empty", &[left]),
-        Answer::Seen { page, caa } => put_fields(out, "seen", &[page.0, caa.0]),
-        Answer::Taken => put_word(out, "taken"),
-        Answer::Unknown => put_word(out, "unknown"),
-        Answer::Running => put_word(out, "running"),
-        Answer::Fault { done } => put_fields(out, "fault", &[u64::from(done)]),
+        Answer::Done => word_before(line, end, "done"),
+        Answer::Word(word) => fields_before(line, end, "word", &[word]),
+        Answer::Denied => word_before(line, end, "denied"),
+        Answer::Refused => word_before(line, end, "refused"),
+        Answer::Unchanged => word_before(line, end, "unchanged"),
+        Answer::Hw(code) => fields_before(line, end, "hw", &[u64::from(code)]),
+        Answer::BadVmsa => word_before(line, end, "badvmsa"),
+        Answer::Strange(owner) => strange_before(line, end, owner),
+        Answer::Held(count) => fields_before(line, end, "held", &[count]),
+        Answer::Block { page, left } => fields_before(line, end, "block", &[page.0, left]),
+        Answer::Empty { left } => fields_before(line, end, "empty", &[left]),
+        Answer::Seen { page, caa } => fields_before(line, end, "seen", &[page.0, caa.0]),
+        Answer::Taken => word_before(line, end, "taken"),
+        Answer::Unknown => word_before(line, end, "unknown"),
+        Answer::Running => word_before(line, end, "running"),
+        Answer::Fault { done } => fields_before(line, end, "fault", &[u64::from(done)]),
     }
 }
 
-#[tactic(auto, using(crate::proofs::FrontLemmas::begun_on))]
-fn put_strange(out: &mut Vec<u8>, owner: Owner) -> Result<(), NoMemory>
-    ensures ok { OnOk result (out.new.items ≡ out.old.items ++ flat_map spaced (answer_fields (Answer.Strange owner))) }
-    ensures err { OnErr result (IsBegun out.old.items out.new.items) }
+#[tactic(auto, unfolding(crate::specs::History::owner_text))]
+fn owner_before(line: &mut [u8; 256], end: usize, owner: Owner) -> usize
+    requires least { 7 ≤ end }
+    requires most { end ≤ 256 }
+    ensures low { end ≤ result + 7 }
+    ensures high { result ≤ end }
+    ensures line { drop result line.new ≡ spaced (owner_text owner) ++ drop end line.old }
 {
-    put_word(out, "strange")?;
-    put_word(out, owner_text(owner))
+    match owner {
+        Owner::Guest => word_before(line, end, "guest"),
+        Owner::Module => word_before(line, end, "module"),
+        Owner::Pool => word_before(line, end, "pool"),
+        Owner::Vmsa => word_before(line, end, "vmsa"),
+    }
 }
 
-#[tactic(auto, using(crate::proofs::FrontLemmas::begun_on))]
-fn put_entry(out: &mut Vec<u8>, entry: &Entry) -> Result<(), NoMemory>
+fn strange_before(line: &mut [u8; 256], end: usize, owner: Owner) -> usize
+    requires least { 50 ≤ end }
+    requires most { end ≤ 256 }
+    ensures low { end ≤ result + 50 }
+    ensures high { result ≤ end }
+    ensures line { drop result line.new ≡ flat_map spaced (answer_fields (Answer.Strange owner)) ++ drop end line.old }
+{
+    let at = owner_before(line, end, owner);
+    word_before(line, at, "strange")
+}
+
+// The step and the answer of an entry, at the end of the room.
+fn told_before(line: &mut [u8; 256], step: &Step, answer: &Answer) -> usize
+    ensures low { 100 ≤ result }
+    ensures high { result ≤ 256 }
+    ensures line { drop result line.new ≡ flat_map spaced (step_fields step.now ++ codes "->" ∷ answer_fields answer.now) ++ 10 ∷ [] }
+{
+    let at = byte_before(line, 256, b'\n');
+    let at = answer_before(line, at, answer);
+    let at = word_before(line, at, "->");
+    step_before(line, at, step)
+}
+
+/// Writes the line of an entry at the end of the room, and answers where it begins.
+pub fn entry_before(line: &mut [u8; 256], entry: &Entry) -> usize
+    ensures high { result ≤ 256 }
+    ensures line { drop result line.new ≡ entry_line entry.now }
+{
+    let at = told_before(line, &entry.step, &entry.answer);
+    let at = numbers_before(
+        line,
+        at,
+        &[entry.ticket, u64::from(entry.core), entry.place],
+    );
+    text_before(line, at, "step")
+}
+
+fn put_entry(out: &mut Vec<u8>, line: &mut [u8; 256], entry: &Entry) -> Result<(), NoMemory>
     ensures ok { OnOk result (out.new.items ≡ out.old.items ++ entry_line entry.now) }
     ensures err { OnErr result (IsBegun out.old.items out.new.items) }
 {
-    put_text(out, "step")?;
-    put_numbers(out, &[entry.ticket, u64::from(entry.core), entry.place])?;
-    put_step(out, &entry.step)?;
-    put_word(out, "->")?;
-    put_answer(out, &entry.answer)?;
-    put_newline(out)
+    let at = entry_before(line, entry);
+    out.extend_from_slice(&line[at..])?;
+    Ok(())
 }
 
 fn put_entries(out: &mut Vec<u8>, run: &[Entry]) -> Result<(), NoMemory>
     ensures ok { OnOk result (out.new.items ≡ out.old.items ++ flat_map entry_line run.now) }
     ensures err { OnErr result (IsBegun out.old.items out.new.items) }
 {
+    let mut line = [0u8; 256];
     for entry in run {
-        put_entry(out, entry)?;
+        put_entry(out, &mut line, entry)?;
     }
     Ok(())
 }

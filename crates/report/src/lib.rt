@@ -4,13 +4,14 @@
 mod cores;
 mod history;
 mod law;
+mod line;
 mod pages;
 mod summary;
 mod text;
 mod whole;
 
 pub use cores::put_report;
-pub use history::put_history;
+pub use history::{entry_before, put_history};
 pub use law::runs_tell_pages;
 pub use pages::put_rmp;
 pub use summary::{count_replies, count_valid, put_summary, summary_of};

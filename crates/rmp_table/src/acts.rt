@@ -3,10 +3,11 @@ ghost use Rattle.std.specs.Prelude.{◌≡◌, ◌≤◌, true};
 ghost use Rattle.svsm_types.specs.Hardware.{pvalidate_answer, after_pvalidate, after_rmpadjust, does_change, fits, with_right, with_vmsa, with_validity};
 ghost use Rattle.rmp_word.specs.Packed.{HasRights};
 ghost use Rattle.rmp_table.specs.PackedKnown.{code_of, packed_hw, packed_known};
+ghost use Rattle.rmp_table.specs.Sized.{sized};
 
 use crate::PackedRmp;
 use crate::cells::index_of;
-use platform_trait::{Rmp, is_usable};
+use platform_trait::Rmp;
 use std::alloc::Global;
 use svsm_types::{Faulted, Gpa, HwCode, NoMemory, Page, PageState, Perms, Size, Vmpl, page_of};
 
@@ -99,6 +100,8 @@ impl PackedRmp {
 impl Rmp for PackedRmp {
     ghost known = { packed_known };
 
+    ghost sized = { λ p. sized p.head p.entries.items p.sized };
+
     fn large(&self) -> bool {
         self.head.is_some()
     }
@@ -113,14 +116,14 @@ impl Rmp for PackedRmp {
 
     #[tactic(auto, unfolding(svsm_types::specs::Hardware::word_faults))]
     fn read(&mut self, gpa: Gpa) -> Result<u64, Faulted> {
-        let faults = !is_usable(&self.at(index_of(page_of(gpa))));
+        let faults = !self.is_usable_at(index_of(page_of(gpa)));
         self.begin(faults)?;
         Ok(self.words.word(gpa))
     }
 
     #[tactic(auto, unfolding(svsm_types::specs::Hardware::word_faults))]
     fn write(&mut self, gpa: Gpa, word: u64) -> Result<(), Faulted> {
-        let faults = !is_usable(&self.at(index_of(page_of(gpa))));
+        let faults = !self.is_usable_at(index_of(page_of(gpa)));
         self.begin(faults)?;
         self.words.set(gpa, word);
         Ok(())

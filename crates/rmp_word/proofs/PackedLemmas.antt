@@ -3,7 +3,7 @@ use Rattle.std.proofs.Common.{◌≡◌, ℕ, zero, suc, ◌+◌, ◌*◌, ◌/�
 use Rattle.std.specs.Prelude.{◌==◌, ◌&&◌, nat_lt, bit_and, if◌then◌else◌, Option, Some}
 use Rattle.std.proofs.lemmas.Bool.{eq-eqb, lt-ltb}
 use Rattle.std.proofs.lemmas.Nat.Bits.{and_pow}
-use Rattle.svsm_types.specs.Hardware.{has_bit}
+use Rattle.svsm_types.specs.Hardware.{has_bit, is_usable}
 use Rattle.svsm_types.specs.declared.platform.Perms.{Perms}
 use Rattle.svsm_types.specs.declared.platform.PageState.{PageState}
 use Rattle.rmp_word.specs.Packed.{as_bit, right_at, packed, state_of, is_in_layout, unpacked, HasRights}
@@ -101,3 +101,19 @@ bit_1 w = ap (λ (n : ℕ). n == 2) (and_pow w 1) ∙ bit_test (w / 2 % 2) 2 (om
 
 pub bit_2 : (w : ℕ) → (bit_and w 4 == 4) ≡ has_bit 4 w
 bit_2 w = ap (λ (n : ℕ). n == 4) (and_pow w 2) ∙ bit_test (w / 4 % 2) 4 (omega arith) (omega arith)
+
+-- the two lowest bits at once
+both : (a b : ℕ) → a < 2 → b < 2 → (a + 2 * b == 3) ≡ ((a == 1) && (b == 1))
+both zero zero h k = refl
+both zero (suc zero) h k = refl
+both (suc zero) zero h k = refl
+both (suc zero) (suc zero) h k = refl
+both (suc (suc a)) b h k = absurd (omega arith)
+both a (suc (suc b)) h k = absurd (omega arith)
+
+low_bits : (w : ℕ) → w % 4 ≡ w / 1 % 2 + 2 * (w / 2 % 2)
+low_bits w = omega arith
+
+pub both_low : (w : ℕ) → (w % 4 == 3) ≡ is_usable (state_of w)
+unfolding state_of
+both_low w = ap (λ (n : ℕ). n == 3) (low_bits w) ∙ both (w / 1 % 2) (w / 2 % 2) (omega arith) (omega arith)

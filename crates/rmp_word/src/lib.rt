@@ -2,7 +2,7 @@
 #![tactic(auto)]
 
 ghost use Rattle.std.specs.Prelude.{◌≡◌, ◌<◌, ⊤, codes, [], ◌∷◌, Some, IfSome};
-ghost use Rattle.svsm_types.specs.Hardware.{has_bit};
+ghost use Rattle.svsm_types.specs.Hardware.{has_bit, is_usable};
 ghost use Rattle.rmp_word.specs.Packed.{as_bit, packed, state_of, unpacked, HasRights, right_in};
 
 use bitflags::{Flag, Flags, bitflag_items};
@@ -95,6 +95,15 @@ impl RmpWord {
         ensures { result ≡ has_bit 4 self.0 }
     {
         self.contains(RmpWord::VMSA)
+    }
+
+    /// Whether the page is assigned and validated.
+    #[inline(always)]
+    #[tactic(auto, using(crate::proofs::PackedLemmas::both_low))]
+    pub fn is_usable(self) -> bool
+        ensures { result ≡ is_usable (state_of self.0) }
+    {
+        self.0 % 4 == 3
     }
 
     /// The word of a state.

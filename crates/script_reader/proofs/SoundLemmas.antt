@@ -1,23 +1,21 @@
 -- The generated image is sound, and the generated scripts are scripts.
-use Rattle.std.proofs.Common.{◌≡◌, ℕ, zero, suc, ◌+◌, ◌*◌, ◌/◌, ◌%◌, ◌^◌, ◌<◌, ◌≤◌, Bool, true, false, List, [], ◌∷◌, ◌++◌, length, get_or, refl, ap, sym, ◌∙◌, subst, arith}
+use Rattle.std.proofs.Common.{◌≡◌, ℕ, zero, suc, ◌+◌, ◌*◌, ◌/◌, ◌%◌, ◌^◌, ◌<◌, ◌≤◌, Bool, true, false, List, [], ◌∷◌, ◌++◌, refl, ap, sym, ◌∙◌, subst, arith}
 use Rattle.std.specs.Prelude.{◌&&◌, ◌||◌, ◌==◌, nat_le, nat_lt, cond, if◌then◌else◌, ⊤, map, flat_map, Some}
 use Rattle.std.specs.List.{count_by, find, list_any, list_all, range_with_len}
 use Rattle.std.proofs.lemmas.List.Sums.{sum_by-cons}
 use Rattle.std.proofs.lemmas.List.FromFn.{length-map-range_with_len, get_or-map-range_with_len}
-use Rattle.std.proofs.lemmas.Bool.{and_parts, eqb-true, lt-ltb, le-ltb, le-leb}
+use Rattle.std.proofs.lemmas.Bool.{lt-ltb, le-leb}
 use Rattle.std.proofs.lemmas.Bool.Decides.{nat_tests}
-use Rattle.svsm_types.specs.declared.image.Image.{Image}
 use Rattle.svsm_types.specs.declared.image.Range.{Range}
 use Rattle.svsm_types.specs.declared.image.CoreLine.{CoreLine}
-use Rattle.svsm_types.specs.declared.request.Request.{Request}
-use Rattle.svsm_types.specs.declared.request.Request.TheVariants.{Write, Call}
+use Rattle.svsm_types.specs.declared.request.Request.TheVariants.{Call}
 use Rattle.svsm_types.specs.declared.owner.Owner.TheVariants.{Guest, Module, Vmsa}
 use Rattle.svsm_types.specs.declared.platform.HwState.TheVariants.{Assigned, Valid}
 use Rattle.svsm_steps.specs.Checks.{same_owner}
-use Rattle.svsm_steps.specs.Image.{is_in_range, range_of, owner_in}
+use Rattle.svsm_steps.specs.Image.{is_in_range, owner_in}
 use Rattle.svsm_steps.specs.Requests.{IsRequest, IsScript, AreScripts}
-use Rattle.svsm_steps.specs.Sound.{IsSound, is_sound_range, is_sound_core, has_vmsa}
-use Rattle.script_reader.specs.Generated.{pages_from, first_page, vmsa_page, module_ranges, vmsa_range, guest_ranges, generated_core, generated_image, value_after, list_at, guest_writes, generated_entry, request_by, generated_request, generated_script, generated_scripts}
+use Rattle.svsm_steps.specs.Sound.{IsSound, is_sound_range, is_sound_core, is_level, has_vmsa}
+use Rattle.script_reader.specs.Generated.{pages_from, first_page, generated_vmsa_page, vmsa_range, guest_ranges, generated_core, generated_image, value_after, list_at, guest_writes, generated_entry, generated_request, generated_script, generated_scripts}
 
 -- RANGES ONE AFTER ANOTHER
 
@@ -106,10 +104,14 @@ cores_sound core zero regions few most = refl
 cores_sound core (suc cores) regions few most =
     both (is_sound_core regions (generated_core core)) (list_all (is_sound_core regions) (map generated_core (range_with_len (core + 1) cores)))
     (both (nat_lt core (2 ^ 32)) _ (lt-ltb core (2 ^ 32) (omega arith))
-    (both (nat_lt (vmsa_page core) (512 * regions)) _ (lt-ltb (vmsa_page core) (512 * regions) (omega arith))
+    (both (nat_lt (generated_vmsa_page core) (512 * regions)) _ (lt-ltb (generated_vmsa_page core) (512 * regions) (omega arith))
     (both (nat_lt (4096 * first_page core / 4096) (512 * regions)) _ (lt-ltb (4096 * first_page core / 4096) (512 * regions) (omega arith))
     (let whole : 4096 * first_page core % 8 ≡ 0 = omega arith in ap (λ n. n == 0) whole))))
     (cores_sound (core + 1) cores regions (omega arith) (omega arith))
+
+cores_level : (all core cores : ℕ) → list_all (λ (line : CoreLine). is_level (generated_image all) line.vmpl) (map generated_core (range_with_len core cores)) ≡ true
+cores_level all core zero = refl
+cores_level all core (suc cores) = cores_level all (core + 1) cores
 
 -- of cores, each another one
 none_after : (test : CoreLine → Bool) (core from cores : ℕ) → ((core other : ℕ) → core < other → test (generated_core core) ≡ true → test (generated_core other) ≡ false)
@@ -208,6 +210,7 @@ image_is_sound cores some few = record {
   regions_least = omega arith;
   regions_most = omega arith;
   vmpl = (omega arith, omega arith);
+  second = tt;
   ranges =
       both _ _ (both (nat_le 5 (512 * (cores + 1))) true (le-leb 5 (512 * (cores + 1)) (omega arith)) refl)
       (both _ _ (both (nat_le 6 (512 * (cores + 1))) true (le-leb 6 (512 * (cores + 1)) (omega arith)) refl)
@@ -229,12 +232,15 @@ image_is_sound cores some few = record {
   cores_least = let many = length-map-range_with_len generated_core 0 cores in omega arith;
   cores_most = let many = length-map-range_with_len generated_core 0 cores in omega arith;
   cores = cores_sound 0 cores (cores + 1) (omega arith) (omega arith);
+  levels = cores_level cores 0 cores;
   apics = λ apic. one_core (λ (core : CoreLine). core.apic == apic) 0 cores (other_apic apic);
   vmsas_apart = λ page. one_core (has_vmsa page) 0 cores (other_page page);
   vmsas = λ page. all_found page cores;
   fills = refl;
   faults = refl;
   host = refl;
+  blocks = refl;
+  blocks_of_pool = tt;
 }
 
 -- THE SCRIPTS

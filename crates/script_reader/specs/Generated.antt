@@ -1,9 +1,6 @@
 -- The image and the scripts that are generated from three numbers. This module's own.
-use Rattle.std.specs.Prelude.{ℕ, zero, suc, ◌+◌, ◌*◌, ◌/◌, ◌%◌, ◌^◌, ◌==◌, if◌then◌else◌, Some, List, [], ◌∷◌, ◌++◌, map, flat_map}
+use Rattle.std.specs.Prelude.{ℕ, zero, suc, ◌+◌, ◌*◌, ◌/◌, ◌%◌, ◌^◌, ◌==◌, if◌then◌else◌, false, None, Some, List, [], ◌∷◌, ◌++◌, map, flat_map}
 use Rattle.std.specs.List.{range_with_len}
-use Rattle.svsm_types.specs.declared.address.Gpa.{Gpa}
-use Rattle.svsm_types.specs.declared.address.Page.{Page}
-use Rattle.svsm_types.specs.declared.platform.Vmpl.{Vmpl}
 use Rattle.svsm_types.specs.declared.platform.HwState.{HwState}
 use Rattle.svsm_types.specs.declared.platform.HwState.TheVariants.{Assigned, Valid}
 use Rattle.svsm_types.specs.declared.owner.Owner.{Owner}
@@ -25,15 +22,16 @@ abbrev pub first_page : ℕ → ℕ
 first_page core = 512 * (core + 1)
 
 -- and a VMSA page
-abbrev pub vmsa_page : ℕ → ℕ
-vmsa_page core = 0x10 + core
+abbrev pub generated_vmsa_page : ℕ → ℕ
+generated_vmsa_page core = 0x10 + core
 
 -- the module's pages, with the GHCB page among them
 abbrev pub module_ranges : List Range
 module_ranges = pages_from 0x0 0x5 Module Valid 0x0 ∷ pages_from 0x5 0x1 Module Assigned 0x0 ∷ pages_from 0x6 0xa Module Valid 0x0 ∷ []
 
+-- the VMSA page of a generated core
 abbrev pub vmsa_range : ℕ → Range
-vmsa_range core = pages_from (vmsa_page core) 0x1 Vmsa Valid 0x0
+vmsa_range core = pages_from (generated_vmsa_page core) 0x1 Vmsa Valid 0x0
 
 -- the first 16 pages of a core's region are the guest's, VMPL 2 has all rights on them, and the others wait to be validated
 abbrev pub guest_ranges : ℕ → List Range
@@ -41,13 +39,14 @@ guest_ranges core = pages_from (first_page core) 16 Guest Valid 0xf0 ∷ pages_f
 
 -- the calling area stands at the first page of the core's region
 abbrev pub generated_core : ℕ → CoreLine
-generated_core core = record { apic = core; seat = Some (record { 0 = vmsa_page core }, record { 0 = 4096 * first_page core }) }
+generated_core core = record { apic = core; seat = Some (record { 0 = generated_vmsa_page core }, record { 0 = 4096 * first_page core }); vmpl = record { 0 = 2 } }
 
 -- the image for so many cores
 abbrev pub generated_image : ℕ → Image
 generated_image cores = record {
   regions = cores + 1;
   vmpl = record { 0 = 2 };
+  second = None;
   features = 1;
   ghcb = record { 0 = 0x5 };
   ranges = module_ranges ++ map vmsa_range (range_with_len 0 cores) ++ flat_map guest_ranges (range_with_len 0 cores);
@@ -57,6 +56,9 @@ generated_image cores = record {
   fills = [];
   faults = [];
   host = [];
+  split = false;
+  blocks = [];
+  announce = false;
 }
 
 -- THE SCRIPTS

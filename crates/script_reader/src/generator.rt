@@ -3,7 +3,7 @@ ghost use Rattle.std.specs.Prelude.{◌≡◌, ◌≤◌, ◌<◌, ◌+◌, ◌+
 ghost use Rattle.std.specs.List.{range_with_len};
 ghost use Rattle.svsm_steps.specs.Requests.{AreScripts};
 ghost use Rattle.svsm_steps.specs.Sound.{IsSound};
-ghost use Rattle.script_reader.specs.Generated.{pages_from, first_page, module_ranges, vmsa_page, vmsa_range, guest_ranges, generated_core, generated_image, next_value, value_after, list_at, guest_writes, generated_entry, request_by, generated_script, generated_scripts};
+ghost use Rattle.script_reader.specs.Generated.{pages_from, first_page, module_ranges, generated_vmsa_page, vmsa_range, guest_ranges, generated_core, generated_image, next_value, value_after, list_at, guest_writes, generated_entry, request_by, generated_script, generated_scripts};
 
 use std::alloc::Global;
 use svsm_types::{
@@ -33,7 +33,7 @@ fn first_page(core: u32) -> u64
 }
 
 fn vmsa_page(core: u32) -> u64
-    ensures { result ≡ vmsa_page core }
+    ensures { result ≡ generated_vmsa_page core }
 {
     0x10 + u64::from(core)
 }
@@ -88,6 +88,7 @@ fn generated_core(core: u32) -> CoreLine
     CoreLine {
         apic: core,
         seat: Some((Page(vmsa_page(core)), Gpa(4096 * first_page(core)))),
+        vmpl: Vmpl(2),
     }
 }
 
@@ -107,6 +108,7 @@ fn image_of(alloc: Global, cores: u32) -> Result<Image, NoMemory>
     Ok(Image {
         regions: u64::from(cores) + 1,
         vmpl: Vmpl(2),
+        second: None,
         features: 1,
         ghcb: Page(0x5),
         ranges: ranges_of(alloc, cores)?,
@@ -116,6 +118,9 @@ fn image_of(alloc: Global, cores: u32) -> Result<Image, NoMemory>
         fills: Sequence::new(alloc),
         faults: Sequence::new(alloc),
         host: Sequence::new(alloc),
+        split: false,
+        blocks: Sequence::new(alloc),
+        announce: false,
     })
 }
 

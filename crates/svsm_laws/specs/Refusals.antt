@@ -60,16 +60,16 @@ RefusalsChangeNothing =
     → IsTrue (is_refusing entry.answer) → IsSameState entry.step old new
 
 -- whether all checks of a step hold; those of the pool have none
-abbrev pub is_admitted : Kind → Constants → State → Step → Bool
-is_admitted region constants state step = is_none (refusal (own_region constants step state) step)
-is_admitted pool constants state step = true
-is_admitted registry constants state step = is_none (rows_refusal constants.apics state.rows step)
+abbrev pub is_admitted : Kind → Constants → State → ℕ → Step → Bool
+is_admitted region constants state core step = is_none (refusal (own_region constants step state) step)
+is_admitted pool constants state core step = true
+is_admitted registry constants state core step = is_none (rows_refusal constants.cores state.rows core step)
 
 -- A step that is not admitted leaves the whole state as it was.
 abbrev pub NotAdmittedChangesNothing : Type 0
 NotAdmittedChangesNothing =
     (constants : Constants) (old : State) (entry : Entry) (new : State) → Leads constants old entry new
-    → is_admitted (kind entry.step) constants old entry.step ≡ false → new ≡ old
+    → is_admitted (kind entry.step) constants old entry.core entry.step ≡ false → new ≡ old
 
 -- No step of a core makes a region one 2M entry.
 abbrev pub NoneJoins : Type 0
@@ -83,6 +83,7 @@ IsCommon r =
     r.hw.large ≡ true → (index other : ℕ) → index < 512 → other < 512
     → slice_index_or r.hw.pages index blank ≡ slice_index_or r.hw.pages other blank
 
+-- each region held as 2M has one state for its pages
 abbrev pub AreCommon : State → Type 0
 AreCommon state = (number : ℕ) → IsCommon (state.regions number)
 

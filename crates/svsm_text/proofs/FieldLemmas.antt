@@ -1,9 +1,10 @@
 -- Fields that are read one after another.
-use Rattle.std.proofs.Common.{◌≡◌, ℕ, zero, suc, ◌+◌, ◌<◌, ◌≤◌, Bool, true, false, List, [], ◌∷◌, ◌++◌, length, take, drop, refl, sym, ◌∙◌, ap, arith, append_assoc, length-drop, drop-cons}
+use Rattle.std.proofs.Common.{◌≡◌, ℕ, zero, suc, ◌+◌, ◌<◌, ◌≤◌, Bool, true, false, List, [], ◌∷◌, ◌++◌, length, take, drop, refl, sym, ◌∙◌, ap, arith, append_assoc, length-append, length-drop, drop-cons, set, subst}
 use Rattle.std.specs.Prelude.{if◌then◌else◌, Some, None, map, slice_index}
 use Rattle.std.specs.List.{position_or_len, onto_first}
 use Rattle.memchr.specs.Find.{IsFirstByte, is_byte}
 use Rattle.std.specs.Borrow.{Bor}
+use Rattle.std.proofs.lemmas.List.{map-append, take_more_set}
 use Rattle.svsm_text.proofs.LineLemmas.{found_byte, not_found_byte}
 use Rattle.svsm_text.specs.Lines.{is_space, begins_with_space, fields, after_spaces}
 
@@ -109,3 +110,37 @@ field_read before bs at found =
 
 pub last_read : (before : List (List ℕ)) (bs : List ℕ) → IsFirstByte (is_byte 32) bs None → before ++ fields bs ≡ before ++ bs ∷ []
 last_read before bs none = ap (λ fs. before ++ fs) (one_field bs (not_found_byte 32 bs none))
+
+-- A FEW FIELDS
+
+onto_some : (b : ℕ) (all : List (List ℕ)) → 0 < length all → 0 < length (onto_first b all)
+onto_some b [] some = absurd (omega (arith, some))
+onto_some b (first ∷ all) some = omega arith
+
+some_by : (b : ℕ) (bs : List ℕ) (t u : Bool) → is_space b ≡ t → begins_with_space bs ≡ u → 0 < length (fields bs) → 0 < length (fields (b ∷ bs))
+some_by b bs true true is begins some = subst (λ fs. 0 < length fs) (sym (at_space b bs is ∙ past_by_test)) some
+  where
+    past_by_test : past bs ≡ fields bs
+    past_by_test = simp begins
+some_by b bs true false is begins some = subst (λ fs. 0 < length fs) (sym (at_space b bs is ∙ past_by_test)) (omega arith)
+  where
+    past_by_test : past bs ≡ [] ∷ fields bs
+    past_by_test = simp begins
+some_by b bs false u is begins some = subst (λ fs. 0 < length fs) (sym (onto_fields b bs is)) (onto_some b (fields bs) some)
+
+-- a line has a field
+pub some_field : (bs : List ℕ) → 0 < length (fields bs)
+some_field [] = omega arith
+some_field (b ∷ bs) = some_by b bs (is_space b) (begins_with_space bs) refl refl (some_field bs)
+
+-- a field behind so many others, and a space behind it
+pub many_fields : (before : List (List ℕ)) (bs : List ℕ) (at n : ℕ) → length before ≡ n → IsFirstByte (is_byte 32) bs (Some at) → n + 1 < length (before ++ fields bs)
+many_fields before bs at n size found =
+    let parts : fields bs ≡ take at bs ∷ fields (after_spaces (drop at bs)) = first_field bs at (found_byte 32 bs at found) found.0.high in
+    omega (arith, size, length-append before (fields bs), ap length parts, some_field (after_spaces (drop at bs)))
+
+-- one more of the few
+pub one_more : (found : List (Bor (List ℕ))) (count : ℕ) (field : Bor (List ℕ)) → count < length found
+    → texts (take (count + 1) (set found count field)) ≡ texts (take count found) ++ field.now ∷ []
+one_more found count field room =
+    ap texts (take_more_set found count field room) ∙ map-append (λ (f : Bor (List ℕ)). f.now) (take count found) (field ∷ [])

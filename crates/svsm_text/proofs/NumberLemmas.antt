@@ -104,10 +104,29 @@ none_left n small = grind (arith, nat_tests)
 more_left : (n : ℕ) → 16 ≤ n → nat_eq (n / 16) 0 ≡ false
 more_left n large = grind (arith, nat_tests)
 
+-- digits stand in front of what is there
+onto_front : (k n : ℕ) (acc rest : List ℕ) → digits_onto k 16 false n (acc ++ rest) ≡ digits_onto k 16 false n acc ++ rest
+onto_front zero n acc rest = refl
+onto_front (suc k) n acc rest = by_end (nat_eq (n / 16) 0) (onto_front k (n / 16) (digit_glyph false (n % 16) ∷ acc) rest)
+  where
+    by_end : (t : Bool)
+        → digits_onto k 16 false (n / 16) ((digit_glyph false (n % 16) ∷ acc) ++ rest)
+        ≡ digits_onto k 16 false (n / 16) (digit_glyph false (n % 16) ∷ acc) ++ rest
+        → (if t then digit_glyph false (n % 16) ∷ (acc ++ rest) else digits_onto k 16 false (n / 16) (digit_glyph false (n % 16) ∷ (acc ++ rest)))
+        ≡ (if t then digit_glyph false (n % 16) ∷ acc else digits_onto k 16 false (n / 16) (digit_glyph false (n % 16) ∷ acc)) ++ rest
+    by_end true more = refl
+    by_end false more = more
+
 -- at first no digit is written
-pub onto_none : (n at : ℕ) (text : List ℕ) → length text ≤ at → digits_onto 64 16 false n (drop at text) ≡ digits 16 false n
+pub written_none : (fuel n at end : ℕ) (text : List ℕ) → fuel ≡ 64 → at ≡ end → digits_onto fuel 16 false n (drop at text) ≡ digits 16 false n ++ drop end text
 unfolding digits
-onto_none n at text whole = ap (digits_onto 64 16 false n) (drop_of_length-le text {i = at} whole)
+written_none fuel n at end text all same =
+    onto_front fuel n [] (drop at text)
+    ∙ (ap (λ (k : ℕ). digits_onto fuel 16 false n [] ++ drop k text) same ∙ ap (λ (k : ℕ). digits_onto k 16 false n [] ++ drop end text) all)
+
+-- there is room for all digits of a word
+pub room_all : (places n : ℕ) → places ≡ 16 → n < 2 ^ 64 → n < 16 ^ places
+room_all places n all small = subst (λ (p : ℕ). n < 16 ^ p) (sym all) small
 
 -- with a digit more written in front, a digit less is left to write
 pub written_more : (k fuel n at next : ℕ) (text : List ℕ) → fuel ≡ suc k → next ≡ at → at < length text → 16 ≤ n

@@ -2,9 +2,11 @@
 use Rattle.std.specs.Prelude.{ℕ, ◌+◌, ◌==◌, Bool, false, if◌then◌else◌, min, Option, Some, None, List, [], ◌∷◌, length, drop}
 use Rattle.std.specs.List.{onto_first, position_or_len}
 
+-- a newline ends a line
 abbrev pub is_newline : ℕ → Bool
 is_newline b = b == 10
 
+-- a space parts fields
 abbrev pub is_space : ℕ → Bool
 is_space b = b == 32
 
@@ -13,6 +15,7 @@ abbrev pub lines : List ℕ → List (List ℕ)
 lines [] = []
 lines (b ∷ bs) = if is_newline b then [] ∷ lines bs else onto_first b (lines bs)
 
+-- the text begins with a space
 abbrev pub begins_with_space : List ℕ → Bool
 begins_with_space [] = false
 begins_with_space (b ∷ bs) = is_space b

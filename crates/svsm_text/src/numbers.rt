@@ -1,5 +1,5 @@
 //! Numbers of a text.
-ghost use Rattle.std.specs.Prelude.{◌≡◌, ◌<◌, ◌≤◌, ◌++◌, Some, None, false, length, drop, if◌then◌else◌, OnErr, OnOk};
+ghost use Rattle.std.specs.Prelude.{◌≡◌, ◌+◌, ◌<◌, ◌≤◌, ◌++◌, Some, None, false, length, drop, if◌then◌else◌, OnErr, OnOk};
 ghost use Rattle.std.specs.List.{list_all};
 ghost use Rattle.std.specs.Char.{is_digit};
 ghost use Rattle.std.specs.Fmt.{digit_glyph, digits};
@@ -45,13 +45,15 @@ fn glyph_of(digit: u64) -> u8
     }
 }
 
-// Writes the lower-case digits at the end of the bytes, and returns where they begin.
-fn write_digits(value: u64, text: &mut [u8; 18]) -> usize
-    ensures low { 2 ≤ result }
-    ensures high { result < 18 }
-    ensures digits { drop result text.new ≡ digits 16 false value }
+/// Writes the lower-case digits before `end`, and returns where they begin. All behind them stays.
+pub fn write_digits(value: u64, text: &mut [u8], end: usize) -> usize
+    requires least { 16 ≤ end }
+    requires most { end ≤ length text.old }
+    ensures low { end ≤ result + 16 }
+    ensures high { result < end }
+    ensures digits { drop result text.new ≡ digits 16 false value ++ drop end text.old }
 {
-    let mut at = 17;
+    let mut at = end - 1;
     let mut rest = value;
     'digits: while rest >= 16 {
         text[at] = glyph_of(rest % 16);
@@ -68,7 +70,7 @@ pub fn put_hex(out: &mut Vec<u8>, value: u64) -> Result<(), NoMemory>
     ensures memory { OnErr result (out.new.items ≡ out.old.items) }
 {
     let mut text = [0u8; 18];
-    let at = write_digits(value, &mut text);
+    let at = write_digits(value, &mut text, 18);
     text[at - 1] = b'x';
     text[at - 2] = b'0';
     out.extend_from_slice(&text[at - 2..])?;

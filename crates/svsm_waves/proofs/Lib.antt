@@ -8,3 +8,6 @@ pub mod ImageLemmas
 pub mod SmallSound
 pub mod Reopened
 pub mod Begun
+pub mod LevelLemmas
+pub mod ToldLemmas
+pub mod TellLemmas

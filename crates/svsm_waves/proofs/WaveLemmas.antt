@@ -4,7 +4,7 @@ use Rattle.std.proofs.lemmas.List.{length-map}
 use Rattle.std.proofs.lemmas.List.Folds.{list_any-append}
 use Rattle.std.proofs.lemmas.List.FromFn.{get_or-map-range_with_len, length-map-range_with_len}
 use Rattle.std.proofs.lemmas.Bool.Decides.{nat_tests}
-use Rattle.std.specs.Prelude.{IsTrue, map, not, ◌==◌, ◌&&◌, ◌||◌, ◌≢◌}
+use Rattle.std.specs.Prelude.{IsTrue, map, not, ◌==◌, ◌&&◌, ◌||◌, ◌≢◌, Option, None, Some, is_some, cond}
 use Rattle.std.specs.List.{list_all, list_any, range_with_len}
 use Rattle.svsm_types.specs.declared.image.Image.{Image}
 use Rattle.svsm_types.specs.declared.image.CoreLine.{CoreLine}
@@ -17,8 +17,13 @@ use Rattle.svsm_steps.specs.declared.outcome.CoreRun.{CoreRun}
 use Rattle.svsm_steps.specs.Registry.{of_apic_in}
 use Rattle.svsm_steps.specs.Partition.{of_core}
 use Rattle.svsm_steps.specs.Made.{Made, made_of, made_by}
-use Rattle.svsm_calls.specs.Waves.{is_among, apic_of, numbers_of, ready_cores, IsWave, none, one_more}
+use Rattle.svsm_calls.specs.Waves.{is_among, apic_of, numbers_of, next_wave, ready_cores, exits_of, has_refused, IsWave, AreWaves, AreOver, none, one_more}
 use Rattle.svsm_calls.specs.Run.{IsCore, script_of, AreCores, IsRun}
+use Rattle.svsm_steps.specs.Announced.{Announced, exits_between}
+use Rattle.ap_start.specs.declared.exits.ApExit.{ApExit}
+use Rattle.ap_start.specs.Exits.{taken, refused_exit}
+use Rattle.svsm_waves.specs.Told.{told_between, IsTold, IsToldRun}
+use Rattle.svsm_waves.proofs.ToldLemmas.{refused_so}
 use Rattle.svsm_waves.specs.Trace.{Each, IsRecorded, rows_now}
 use Rattle.svsm_waves.specs.Moved.{both_left, both_right, both_true}
 use Rattle.svsm_waves.specs.Wave.{Rises, Waits, AreEntered, AddedBy, Gave, Waved, cores_of, unstarted, left}
@@ -79,9 +84,9 @@ none_yet core ran (entry ∷ entries) own out =
 
 -- THE NEXT WAVE
 
-pub waits_next : (image : Image) (scripts : List (List Request)) (trace : List Entry) (ran : List ℕ) (runs : List CoreRun) (cores : List ℕ) → Waved image scripts trace ran runs → cores ≡ ready_cores image ran (rows_now image trace)
+pub waits_next : (image : Image) (scripts : List (List Request)) (trace : List Entry) (ran : List ℕ) (runs : List CoreRun) (told : List Announced) (cores : List ℕ) → Waved image scripts trace ran runs told → cores ≡ ready_cores image ran (rows_now image trace)
     → Each (Waits image trace) cores
-waits_next image scripts trace ran runs cores waved is = rw is (each_filter (λ core. not (is_among core ran) && list_any (of_apic_in Ready (apic_of image core)) (rows_now image trace)) (Waits image trace) (λ core. core < length image.cores) (numbers_of image)
+waits_next image scripts trace ran runs told cores waved is = rw is (each_filter (λ core. not (is_among core ran) && list_any (of_apic_in Ready (apic_of image core)) (rows_now image trace)) (Waits image trace) (λ core. core < length image.cores) (numbers_of image)
     (λ (core : ℕ) (below : core < length image.cores) (passes : (not (is_among core ran) && list_any (of_apic_in Ready (apic_of image core)) (rows_now image trace)) ≡ true).
     record {
       within = below;
@@ -145,10 +150,23 @@ gave_entered image scripts old new first ran cores runs gave added in_order apar
       (gave.each core below);
 }
 
-pub wave_more : (image : Image) (scripts : List (List Request)) (trace mid new : List Entry) (ran cores : List ℕ) (runs later : List CoreRun) (callers : List Caller) → Waved image scripts trace ran runs
-    → cores ≡ ready_cores image ran (rows_now image trace) → cores ≢ [] → AreEntered image cores trace mid callers → AddedBy (cores_of callers) mid new
-    → ((them : List ℕ) → Gave image scripts mid them runs → Gave image scripts new (them ++ cores_of callers) later) → Waved image scripts new (ran ++ cores) later
-wave_more image scripts trace mid new ran cores runs later callers waved next some entered added gave =
+-- the exits behind it, by the rows before it and after it
+same_exits : (image : Image) (trace wave new : List Entry) (before after : List Row) → new ≡ trace ++ wave → (image.announce ≡ true → before ≡ rows_now image trace)
+    → after ≡ rows_now image new → exits_of image trace wave ≡ told_between image before after
+same_exits image trace wave new before after whole kept now = by image.announce refl
+  where
+    by : (b : Bool) → image.announce ≡ b
+        → cond b (exits_between (rows_now image trace) (rows_now image (trace ++ wave))) [] ≡ cond b (exits_between before after) []
+    by true loud = rw (kept loud, now, whole) refl
+    by false quiet = refl
+
+pub wave_more : (image : Image) (scripts : List (List Request)) (trace mid new : List Entry) (ran cores : List ℕ) (runs later : List CoreRun) (callers : List Caller)
+    (told : List Announced) (before after : List Row) → Waved image scripts trace ran runs told
+    → has_refused image told ≡ false → cores ≡ ready_cores image ran (rows_now image trace) → cores ≢ [] → AreEntered image cores trace mid callers → AddedBy (cores_of callers) mid new
+    → ((them : List ℕ) → Gave image scripts mid them runs → Gave image scripts new (them ++ cores_of callers) later)
+    → (image.announce ≡ true → before ≡ rows_now image trace) → after ≡ rows_now image new
+    → Waved image scripts new (ran ++ cores) later (told ++ told_between image before after)
+wave_more image scripts trace mid new ran cores runs later callers told before after waved taken next some entered added gave kept now =
     let apart = new_cores image ran (rows_now image trace) cores next in
     let wave : List Entry = entered.first ++ added.others in
     let whole : new ≡ trace ++ wave = rw (added.added, entered.added) (simp append_assoc) in
@@ -157,7 +175,9 @@ wave_more image scripts trace mid new ran cores runs later callers waved next so
     let of_wave : IsTrue (list_all (λ (entry : Entry). is_among entry.core cores) wave) = among_append cores entered.first added.others of_first of_others in
     let is_wave : IsWave image cores wave = record { first = entered.first; others = added.others; begin = refl; in_order = entered.in_order; enter_steps = entered.steps; of_cores = of_wave } in
     record {
-      waves = rw whole (one_more trace ran cores wave waved.waves next some is_wave);
+      waves = subst (λ (l : List Announced). AreWaves image new (ran ++ cores) (told ++ l)) (same_exits image trace wave new before after whole kept now)
+          (subst (λ (l : List Entry). AreWaves image l (ran ++ cores) (told ++ exits_of image trace wave)) (sym whole)
+          (one_more trace ran cores wave told waved.waves taken next some is_wave));
       gave = subst (λ (l : List ℕ). Gave image scripts new (ran ++ l) later) entered.callers_are (gave ran (gave_entered image scripts trace mid entered.first ran cores runs waved.gave entered.added entered.in_order apart));
       own = rw whole (among_append (ran ++ cores) trace wave (all_weaken ran (ran ++ cores) trace (λ core h. among_left core ran cores h) waved.own)
           (all_weaken cores (ran ++ cores) wave (λ core h. among_right core ran cores h) of_wave));
@@ -165,7 +185,7 @@ wave_more image scripts trace mid new ran cores runs later callers waved next so
 
 -- THE BEGIN AND THE END
 
-pub waved_none : (image : Image) (scripts : List (List Request)) (trace : List Entry) (runs : List CoreRun) → trace ≡ [] → runs ≡ map unstarted (range_with_len 0 (length image.cores)) → Waved image scripts trace [] runs
+pub waved_none : (image : Image) (scripts : List (List Request)) (trace : List Entry) (runs : List CoreRun) → trace ≡ [] → runs ≡ map unstarted (range_with_len 0 (length image.cores)) → Waved image scripts trace [] runs []
 waved_none image scripts trace runs fresh is = rw (fresh, is) (record {
   waves = none;
   gave = record {
@@ -189,15 +209,55 @@ are_cores image scripts trace ran (line ∷ lines) (run ∷ runs) k e f =
           subst (λ (n : ℕ). IsCore (is_among n ran) image n (script_of scripts n) (made_by n trace) (get_or runs c (unstarted n))) shift (f (suc c) (omega arith))),
     )
 
-pub waved_whole : (image : Image) (scripts : List (List Request)) (trace : List Entry) (ran : List ℕ) (runs : List CoreRun) (cores : List ℕ) → IsRecorded image trace → Waved image scripts trace ran runs
-    → cores ≡ ready_cores image ran (rows_now image trace) → cores ≡ [] → IsRun image scripts trace runs
-waved_whole image scripts trace ran runs cores recorded waved next over = record {
-  ran = ran;
-  legal = recorded.legal;
-  faults = recorded.faults;
-  waves = waved.waves;
-  over = sym next ∙ over;
-  each = are_cores image scripts trace ran image.cores runs 0 waved.gave.count (λ (c : ℕ) (below : c < length image.cores).
-      let e : c ≡ 0 + c = omega arith in
-      subst (λ (n : ℕ). IsCore (is_among n ran) image n (script_of scripts n) (made_by n trace) (get_or runs c (unstarted n))) e (waved.gave.each c below));
-}
+-- the waves are over
+whole_by : (image : Image) (scripts : List (List Request)) (trace : List Entry) (ran : List ℕ) (runs : List CoreRun) (told : List Announced) → IsRecorded image trace
+    → Waved image scripts trace ran runs told → AreOver (has_refused image told) (next_wave image trace ran)
+    → (is : IsRun image scripts trace runs) × (is.exits ≡ told)
+whole_by image scripts trace ran runs told recorded waved over = (
+  record {
+    ran = ran;
+    exits = told;
+    legal = recorded.legal;
+    faults = recorded.faults;
+    waves = waved.waves;
+    over = over;
+    each = are_cores image scripts trace ran image.cores runs 0 waved.gave.count (λ (c : ℕ) (below : c < length image.cores).
+        let e : c ≡ 0 + c = omega arith in
+        subst (λ (n : ℕ). IsCore (is_among n ran) image n (script_of scripts n) (made_by n trace) (get_or runs c (unstarted n))) e (waved.gave.each c below));
+  },
+  refl,
+)
+
+told_by : (image : Image) (scripts : List (List Request)) (trace : List Entry) (runs : List CoreRun) (told : List Announced) (exits : List ApExit) (said : Option (ℕ × ℕ))
+    → (is : IsRun image scripts trace runs) × (is.exits ≡ told) → IsTold image told exits said → IsToldRun image scripts trace runs exits said
+told_by image scripts trace runs told exits said run is = (
+  run.0,
+  subst (λ (l : List Announced). exits ≡ taken image l) (sym run.1) is.took,
+  subst (λ (l : List Announced). said ≡ refused_exit image l) (sym run.1) is.said,
+)
+
+over_empty : (b : Bool) (cores : List ℕ) → b ≡ false → cores ≡ [] → AreOver b cores
+over_empty true cores took empty = cc
+over_empty false cores took empty = empty
+
+over_refused : (b : Bool) (cores : List ℕ) → b ≡ true → AreOver b cores
+over_refused true cores some = tt
+over_refused false cores some = cc
+
+-- since the next one would be empty
+pub waved_whole : (image : Image) (scripts : List (List Request)) (trace : List Entry) (ran : List ℕ) (runs : List CoreRun) (told : List Announced) (exits : List ApExit)
+    (cores : List ℕ) → IsRecorded image trace → Waved image scripts trace ran runs told → IsTold image told exits None
+    → cores ≡ ready_cores image ran (rows_now image trace) → cores ≡ [] → IsToldRun image scripts trace runs exits None
+waved_whole image scripts trace ran runs told exits cores recorded waved is next over =
+    told_by image scripts trace runs told exits None
+    (whole_by image scripts trace ran runs told recorded waved
+    (over_empty (has_refused image told) (next_wave image trace ran) (refused_so image told exits None is) (sym next ∙ over))) is
+
+-- or since the host refused an exit
+pub waved_refused : (image : Image) (scripts : List (List Request)) (trace : List Entry) (ran : List ℕ) (runs : List CoreRun) (told : List Announced) (exits : List ApExit)
+    (said : Option (ℕ × ℕ)) → IsRecorded image trace → Waved image scripts trace ran runs told → IsTold image told exits said → is_some said ≡ true
+    → IsToldRun image scripts trace runs exits said
+waved_refused image scripts trace ran runs told exits said recorded waved is some =
+    told_by image scripts trace runs told exits said
+    (whole_by image scripts trace ran runs told recorded waved
+    (over_refused (has_refused image told) (next_wave image trace ran) (refused_so image told exits said is ∙ some))) is

@@ -13,6 +13,7 @@ use Rattle.svsm_steps.specs.declared.outcome.CoreEnd.TheVariants.{Unstarted}
 use Rattle.svsm_steps.specs.Registry.{of_apic_in}
 use Rattle.svsm_steps.specs.Formed.{IsWord}
 use Rattle.svsm_steps.specs.Made.{made_by}
+use Rattle.svsm_steps.specs.Announced.{Announced}
 use Rattle.svsm_calls.specs.Waves.{is_among, apic_of, enters, numbers_of, AreWaves}
 use Rattle.svsm_calls.specs.Run.{caller_of, IsCore, script_of}
 use Rattle.svsm_waves.specs.Trace.{Each, rows_now}
@@ -65,9 +66,9 @@ pub record Gave (image : Image) (scripts : List (List Request)) (trace : List En
   pub each : (core : ℕ) → core < length image.cores
       → IsCore (is_among core ran) image core (script_of scripts core) (made_by core trace) (get_or runs core (unstarted core))
 
--- the waves so far
-pub record Waved (image : Image) (scripts : List (List Request)) (trace : List Entry) (ran : List ℕ) (runs : List CoreRun) : Type 0 where
-  pub waves : AreWaves image trace ran
+-- the waves so far, with the exits behind them
+pub record Waved (image : Image) (scripts : List (List Request)) (trace : List Entry) (ran : List ℕ) (runs : List CoreRun) (told : List Announced) : Type 0 where
+  pub waves : AreWaves image trace ran told
   pub gave : Gave image scripts trace ran runs
   pub own : IsTrue (list_all (λ (entry : Entry). is_among entry.core ran) trace)
 

@@ -1,37 +1,28 @@
-use Rattle.std.proofs.Common.{◌≡◌, ◌+◌, ◌-◌, ◌^◌, ◌<◌, List, length, min, sym, ap, ◌∙◌, subst, arith, All}
+use Rattle.std.proofs.Common.{◌≡◌, ◌++◌, ℕ, List, length, sym, ap, ◌∙◌, subst, Global}
+use Rattle.std.specs.declared.vec.Vec.{Vec}
 use Rattle.svsm_steps.specs.declared.entry.Entry.{Entry}
-use Rattle.history_core.specs.Merged.{entries_in}
-use Rattle.history_core.specs.Placed.{placed}
-use Rattle.history_core.proofs.BehindLemmas.{counted, room_behind, none_behind, all_behind}
+use Rattle.history_core.specs.Merged.{AreLogsOf}
+use Rattle.history_core.specs.Raised.{raised}
+use Rattle.history_core.proofs.PourLemmas.{turned_is}
 use Rattle.history_core.proofs.behind.merge_behind.Goals as goal
 
-pub returns-in_default : goal.returns-in_default
-returns-in_default c = λ regions history logs.
-    none_behind regions history c.args.logs.items logs c.args.past.items (ap (λ l. entries_in l) (sym c.deref.ensures.value) ∙ c.in_default.ensures)
-
-pub put_logs-requires : goal.put_logs-requires
-put_logs-requires c =
-    let past = c.args.past.items in
-    let logs = c.args.logs.items in
-    let all = c.in_ok-all.all in
-    let entries : List Entry = entries_in logs in
-    let few : all.len < 2 ^ 63 = omega (arith, all.ok.1, all.small) in
-    let count : c.count_of.result ≡ length entries =
-    counted c.requires.0 c.requires.1 logs c.requires.2 past all.items _ c.count_of.result all.len c.in_ok-all.ensures all.ok.0 few
-    (c.count_of.ensures ∙ ap (λ l. min (length (entries_in l)) (2 ^ 64 - 1)) c.deref-2.ensures.value) in
-    let before : c.len-before.result ≡ length past = c.len-before.ensures ∙ c.args.past.ok.0 in
-    subst (λ l. All (λ (e : Entry). c.len-before.result + e.ticket < length c.deref_mut.result.now) (entries_in l)) (sym c.deref-3.ensures.value)
-    (subst (λ (l : List Entry). All (λ (e : Entry). c.len-before.result + e.ticket < length l) entries) (sym c.deref_mut.ensures.value)
-    (room_behind c.requires.0 c.requires.1 logs c.requires.2 past all.items _ c.len-before.result c.count_of.result c.in_ok-all.ensures before count))
+pub pour-requires-clause-turned : goal.pour-requires-clause-turned
+pour-requires-clause-turned c =
+    let history = c.requires.1 in
+    let logs = c.args.logs.items in (
+      history,
+      turned_is c.requires.0 history logs c.deref_mut.result.now c.turn.new.logs c.deref_mut-2.result.now c.deref-2.result.now c.args.logs.len c.requires.2
+          c.deref_mut.ensures.value c.turn.ensures c.turn.auto.logs c.args.logs.ok.0 c.deref_mut-2.ensures.value
+          (c.deref-2.ensures.value
+          ∙ c.in_ok-order.ensures c.requires.0 history (subst (λ (l : List (Vec Entry Global)). AreLogsOf c.requires.0 history l) (sym c.deref.ensures.value) c.requires.2)),
+    )
 
 pub returns : goal.returns
-returns c = λ regions history logs.
-    let past = c.args.past.items in
-    let all = c.in_ok-all.all in
-    let few : all.len < 2 ^ 63 = omega (arith, all.ok.1, all.small) in
-    let count : c.count_of.result ≡ length (entries_in c.args.logs.items) =
-    counted regions history c.args.logs.items logs past all.items _ c.count_of.result all.len c.in_ok-all.ensures all.ok.0 few
-    (c.count_of.ensures ∙ ap (λ l. min (length (entries_in l)) (2 ^ 64 - 1)) c.deref-2.ensures.value) in
-    let before : c.len-before.result ≡ length past = c.len-before.ensures ∙ c.args.past.ok.0 in
-    all_behind regions history c.args.logs.items logs past all.items c.put_logs.new.all _ c.len-before.result c.count_of.result all.len c.in_ok-all.ensures before count all.ok.0
-    (c.put_logs.ensures ∙ (λ i. placed c.len-before.result (entries_in (c.deref-3.ensures.value i)) (c.deref_mut.ensures.value i)))
+returns c = λ regions history of.
+    let logs = c.args.logs.items in
+    let old : c.try_reserve.new.self.items ≡ c.args.past.items = c.in_ok-try_reserve.ensures.items in
+    c.pour.ensures history
+    (turned_is regions history logs c.deref_mut.result.now c.turn.new.logs c.deref_mut-2.result.now c.deref-2.result.now c.args.logs.len of
+    c.deref_mut.ensures.value c.turn.ensures c.turn.auto.logs c.args.logs.ok.0 c.deref_mut-2.ensures.value
+    (c.deref-2.ensures.value ∙ c.in_ok-order.ensures regions history (subst (λ (l : List (Vec Entry Global)). AreLogsOf regions history l) (sym c.deref.ensures.value) of)))
+    ∙ ap (λ (l : List Entry). l ++ raised (length l) history) old

@@ -1,5 +1,5 @@
-use Rattle.std.proofs.Common.{◌≡◌, false, true, ◌∙◌, sym, subst}
-use Rattle.image_reader.specs.Grammar.{overlaps, is_lawful}
+use Rattle.std.proofs.Common.{◌≡◌, false, true, sym, subst}
+use Rattle.image_grammar.specs.Grammar.{overlaps, is_lawful}
 use Rattle.image_reader.specs.SoFar.{IsSoFar}
 use Rattle.image_reader.proofs.SoFarLemmas.{so_far_more}
 use Rattle.image_reader.proofs.draft.Draft.add.Goals as goal

@@ -1,8 +1,7 @@
-use Rattle.std.proofs.Common.{◌≡◌, ℕ, ◌*◌, Bool, true, false, refl, sym, ◌∙◌, ap, arith}
+use Rattle.std.proofs.Common.{ℕ, refl, sym, ◌∙◌}
 use Rattle.std.specs.Prelude.{not, ◌||◌}
-use Rattle.std.specs.List.{list_all, list_any, range_with_len}
 use Rattle.svsm_steps.specs.Image.{is_held_large}
-use Rattle.image_reader.specs.End.{is_even}
+use Rattle.image_grammar.specs.End.{is_even}
 use Rattle.image_reader.proofs.TableLemmas.{all_next, not_all}
 use Rattle.image_reader.proofs.draft.Draft.are_even.Goals as goal
 

@@ -1,9 +1,8 @@
-use Rattle.std.proofs.Common.{◌≡◌, ℕ, ◌*◌, Bool, true, false, refl, sym, ◌∙◌, ap, arith}
+use Rattle.std.proofs.Common.{ℕ, refl, sym, ◌∙◌}
 use Rattle.std.specs.Prelude.{not, ◌||◌}
-use Rattle.std.specs.List.{list_all, list_any, range_with_len}
 use Rattle.svsm_steps.specs.Image.{range_of}
 use Rattle.svsm_steps.specs.Sound.{is_accepted}
-use Rattle.image_reader.specs.End.{is_guest_shared}
+use Rattle.image_grammar.specs.End.{is_guest_shared}
 use Rattle.image_reader.proofs.TableLemmas.{all_next, not_all}
 use Rattle.image_reader.proofs.draft.Draft.are_free.Goals as goal
 

@@ -1,9 +1,9 @@
 use Rattle.std.proofs.Common.{◌≡◌, ℕ}
 use Rattle.std.specs.Prelude.{true, not, ◌||◌}
-use Rattle.std.specs.List.{list_all, list_any, range_with_len}
+use Rattle.std.specs.List.{list_all, range_with_len}
 use Rattle.svsm_steps.specs.Image.{range_of}
 use Rattle.svsm_steps.specs.Sound.{is_accepted}
-use Rattle.image_reader.specs.End.{is_guest_shared}
+use Rattle.image_grammar.specs.End.{is_guest_shared}
 use Rattle.image_reader.proofs.draft.Draft.are_free.Given as goal
 
 abbrev pub invariant-pages : goal.invariant-pages

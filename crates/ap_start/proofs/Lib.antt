@@ -1,0 +1,3 @@
+pub mod AnnounceLemmas
+pub mod DueLemmas
+pub mod WaveLemmas

@@ -1,0 +1,5 @@
+pub mod Exits
+pub mod Announced
+pub mod Text
+pub mod Wave
+pub mod Due

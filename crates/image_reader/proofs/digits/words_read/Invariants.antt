@@ -1,0 +1,13 @@
+use Rattle.std.proofs.Common.{◌≡◌, ◌/◌, ◌%◌, length}
+use Rattle.image_reader.specs.Digits.{words_told}
+use Rattle.image_reader.proofs.DigitLemmas.{behind}
+use Rattle.image_reader.proofs.digits.words_read.Given as goal
+
+abbrev pub invariant-words : goal.invariant-words
+invariant-words l = record {
+  whole : length l.rest % 16 ≡ 0;
+  read : words_told (length l.digits / 16) l.digits ≡ behind l.words.items (words_told (length l.rest / 16) l.rest);
+}
+
+abbrev pub decreases-words : goal.decreases-words
+decreases-words l = length l.rest

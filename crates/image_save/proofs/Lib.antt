@@ -1,0 +1,7 @@
+mod StandLemmas
+mod GatherLemmas
+mod WordLemmas
+mod ToldLemmas
+mod ImageLemmas
+pub mod StoodLemmas
+pub mod CallerLemmas

@@ -1,0 +1,3 @@
+pub mod Standing
+pub mod Gathered
+pub mod Stood

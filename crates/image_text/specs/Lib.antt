@@ -1,0 +1,11 @@
+pub mod Boots
+pub mod Collected
+pub mod PageForm
+pub mod ReadsAgain
+pub mod Refused
+pub mod Savable
+pub mod Saved
+pub mod SavedSound
+pub mod Written
+pub mod Worked
+pub mod Fits

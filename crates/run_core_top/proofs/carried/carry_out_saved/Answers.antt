@@ -1,0 +1,33 @@
+use Rattle.std.proofs.Common.{subst, refl}
+use Rattle.command_words.specs.Words.{Run}
+use Rattle.command_words.specs.Seen.{run_seen, save_seen}
+use Rattle.run_core_top.specs.Files.{AreFiles}
+use Rattle.run_core_top.specs.Task.{of_saved}
+use Rattle.run_core_top.proofs.TopLemmas.{saved_so, unsaved_so, ends_consistent, keeps_laws}
+use Rattle.run_core_top.proofs.carried.carry_out_saved.Goals as goal
+
+pub returns-in-Ok-clause-report : goal.returns-in-Ok-clause-report
+returns-in-Ok-clause-report g c =
+    saved_so (g.S.Shelf.seen c.args.shelf.now).told (save_seen c.args.words.now) (run_seen c.in_ok-run.run') c.in_ok-files.files.image c.in_ok-files.files.scripts
+    c.as_slice-scripts.result.now c.in_ok-whole.whole.trace c.in_ok-whole.whole.cores c.in_ok-whole.whole.exits c.in_ok-whole.whole.refused c.in-Ok.text.items
+    c.in_ok-run.ensures c.in_ok-files.ensures.files c.in_ok-whole.ensures.boots c.as_slice-scripts.ensures c.in_ok-whole.ensures.run c.in_ok-whole.ensures.safe
+    c.in-Ok.ensures
+
+pub returns-in-Ok-clause-laws : goal.returns-in-Ok-clause-laws
+returns-in-Ok-clause-laws g c =
+    keeps_laws (g.S.Shelf.seen c.args.shelf.now).told (of_saved (save_seen c.args.words.now)) c.in_ok-files.files.image c.in_ok-files.files.scripts
+    c.as_slice-scripts.result.now c.in_ok-whole.whole.trace c.in_ok-whole.whole.trace c.in_ok-whole.whole.cores c.in_ok-whole.whole.exits c.in_ok-whole.whole.refused
+    (subst (λ (one : Run). AreFiles (g.S.Shelf.seen c.args.shelf.now).told one c.in_ok-files.files.image c.in_ok-files.files.scripts) c.in_ok-run.ensures c.in_ok-files.ensures.files)
+    c.in_ok-files.ensures.sound c.in_ok-files.ensures.formed c.as_slice-scripts.ensures c.in_ok-whole.ensures.run refl
+
+pub save_run-requires-clause-consistent : goal.save_run-requires-clause-consistent
+save_run-requires-clause-consistent g c =
+    ends_consistent c.in_ok-files.files.image c.in_ok-files.files.scripts c.as_slice-scripts.result.now c.in_ok-whole.whole.trace c.in_ok-whole.whole.cores
+    c.in_ok-whole.whole.exits c.in_ok-whole.whole.refused c.in_ok-files.ensures.sound c.in_ok-files.ensures.formed c.as_slice-scripts.ensures c.in_ok-whole.ensures.run
+
+pub returns-clause-stop : goal.returns-clause-stop
+returns-clause-stop g c =
+    unsaved_so (g.S.Shelf.seen c.args.shelf.now) (g.S.Shelf.seen c.load_files.new.shelf) (save_seen c.args.words.now) (run_seen c.in_ok-run.run')
+    c.in_ok-files.files.image c.in_ok-files.files.scripts c.as_slice-scripts.result.now c.in_ok-whole.whole.trace c.in_ok-whole.whole.cores c.in_ok-whole.whole.exits
+    c.in_ok-whole.whole.refused c.in-Err.error c.from.result c.in_ok-run.ensures c.in_ok-files.ensures.calm c.in_ok-files.ensures.files
+    c.in_ok-whole.ensures.boots c.as_slice-scripts.ensures c.in_ok-whole.ensures.run c.in-Err.ensures c.from.ensures

@@ -1,0 +1,24 @@
+//! A core's run as a tree, and waves that have begun: laws that tie them to the definitions of a core's run and of a run.
+#![tactic(auto)]
+
+ghost use Rattle.run_trees.specs.Laws.{TreesAreRuns, RunsAreTrees, TreesEnd};
+ghost use Rattle.run_trees.specs.Begun.{BegunAreFronts, EndedAreOrdered, EnterGoesOn, EntryGoesOn, FrontsAreBegun};
+
+/// What leads along the tree of a script to an end is a core's run, and a core's run leads along it; and from each place an end can
+/// be reached. So what a core made so far is the begin of one of its runs exactly where it leads along the tree.
+pub fn trees_are_runs()
+    ensures runs { TreesAreRuns }
+    ensures trees { RunsAreTrees }
+    ensures ends { TreesEnd }
+{}
+
+/// Each begin of a list that the rules of waves allow has begun as is kept of it, and what has begun so can go on to such a list; where
+/// all cores have ended and no wave follows, what is kept is of a whole list. The next core of a wave may enter, and a core of a wave that
+/// has entered may make the step that it asks for.
+pub fn waves_have_begun()
+    ensures fronts { FrontsAreBegun }
+    ensures begun { BegunAreFronts }
+    ensures ended { EndedAreOrdered }
+    ensures enters { EnterGoesOn }
+    ensures goes_on { EntryGoesOn }
+{}
