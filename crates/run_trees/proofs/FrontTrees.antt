@@ -25,7 +25,8 @@ use Rattle.svsm_calls.specs.Waves.{is_among, apic_of, numbers_of, next_wave, ent
 use Rattle.svsm_calls.specs.Run.{caller_of, IsStarted, IsCore, script_of, AreCores}
 use Rattle.run_trees.specs.Tree.{ended, Follows}
 use Rattle.run_trees.specs.Laws.{AreAnswers, ReadsRun, script_tree}
-use Rattle.run_trees.specs.Begun.{cores_behind, HasEnded, IsUnderWay, HasBegun, GivesAnswers, FrontsAreBegun}
+use Rattle.run_trees.specs.Order.{IsOrdered}
+use Rattle.run_trees.specs.Begun.{cores_behind, HasEnded, IsUnderWay, IsBegun, HasBegun, GivesAnswers, FrontsAreBegun}
 use Rattle.run_trees.proofs.CallTrees.{on_the_way}
 use Rattle.run_trees.proofs.RunTrees.{run_reads}
 use Rattle.run_trees.proofs.WaveTrees.{made_append, none_made, fresh, left, right, either, either_list, same, filter_true, filter_false, or_true}
@@ -91,15 +92,15 @@ whole image scripts core made ran answers =
 -- TWO WAYS TO CUT A LIST
 
 -- a list that is cut twice: one front is a begin of the other
-abbrev Cut : {A : Type 0} → List A → List A → List A → List A → Type 0
+abbrev pub Cut : {A : Type 0} → List A → List A → List A → List A → Type 0
 Cut {A} one more front back =
     ((between : List A) × (front ≡ one ++ between) × (more ≡ between ++ back))
     ⊎ ((between : List A) × (one ≡ front ++ between) × (back ≡ between ++ more))
 
-tails : {A : Type 0} (x y : A) (xs ys : List A) → x ∷ xs ≡ y ∷ ys → (x ≡ y) × (xs ≡ ys)
+pub tails : {A : Type 0} (x y : A) (xs ys : List A) → x ∷ xs ≡ y ∷ ys → (x ≡ y) × (xs ≡ ys)
 tails x y xs ys is = (cc, cc)
 
-cut : {A : Type 0} (one more front back : List A) → one ++ more ≡ front ++ back → Cut one more front back
+pub cut : {A : Type 0} (one more front back : List A) → one ++ more ≡ front ++ back → Cut one more front back
 cut [] more front back is = inl (front, refl, is)
 cut (x ∷ one) more [] back is = inr (x ∷ one, refl, sym is)
 cut (x ∷ one) more (y ∷ front) back is =
@@ -272,30 +273,27 @@ take_none (x ∷ l) = refl
 pub no_among : (core : ℕ) (l : List ℕ) → is_among core (take 0 l) ≡ true → ⊥
 no_among core l is = let none : is_among core [] ≡ true = subst (λ (x : List ℕ). is_among core x ≡ true) (take_none l) is in cc
 
-none_begun : (image : Image) (scripts : List (List Request)) → HasBegun image scripts []
-none_begun image scripts = record {
-  ran = [];
-  exits = [];
-  cores = next_wave image [] [];
-  entered = 0;
-  begun = record {
-    before = [];
-    wave = [];
-    first = [];
-    others = [];
-    split = refl;
-    waves = none;
-    whole = λ core among. absurd (cc);
-    next = refl;
-    begin = refl;
-    in_order = sym (take_none (next_wave image [] []));
-    enter_steps = ap (map (enters image)) (sym (take_none (next_wave image [] [])));
-    within = omega arith;
-    waiting = λ _. refl;
-    of_cores = refl;
-    each = λ core among. absurd (no_among core (next_wave image [] []) among);
-  };
+pub none_have_begun : (image : Image) (scripts : List (List Request)) → IsBegun image scripts [] [] [] (next_wave image [] []) 0
+none_have_begun image scripts = record {
+  before = [];
+  wave = [];
+  first = [];
+  others = [];
+  split = refl;
+  waves = none;
+  whole = λ core among. absurd (cc);
+  next = refl;
+  begin = refl;
+  in_order = sym (take_none (next_wave image [] []));
+  enter_steps = ap (map (enters image)) (sym (take_none (next_wave image [] [])));
+  within = omega arith;
+  waiting = λ _. refl;
+  of_cores = refl;
+  each = λ core among. absurd (no_among core (next_wave image [] []) among);
 }
+
+none_begun : (image : Image) (scripts : List (List Request)) → HasBegun image scripts []
+none_begun image scripts = record { ran = []; exits = []; cores = next_wave image [] []; entered = 0; begun = none_have_begun image scripts }
 
 wave_begun : (image : Image) (scripts : List (List Request)) (before wave : List Entry) (ran : List ℕ) (exits : List Announced) (cores : List ℕ) (one more : List Entry) → AreWaves image before ran exits
     → has_refused image exits ≡ false → cores ≡ next_wave image before ran
@@ -424,3 +422,12 @@ fronts_begun image scripts entries answers front =
     fronts image scripts (entries ++ front.more) front.ordered.ran front.ordered.exits front.ordered.waves
     (λ core among. each_line image scripts (entries ++ front.more) front.ordered.ran 0 image.cores front.cores core core front.ordered.each (low core among) (omega arith) among)
     entries front.more refl answers
+
+-- in a whole list the core of each wave is at its end
+pub all_ended : (image : Image) (scripts : List (List Request)) (entries : List Entry) (runs : List CoreRun) (ordered : IsOrdered image scripts entries runs) → GivesAnswers entries
+    → (core : ℕ) → is_among core ordered.ran ≡ true → HasEnded image scripts core (made_by core entries)
+all_ended image scripts entries runs ordered answers core among =
+    whole image scripts core (made_by core entries)
+    (each_line image scripts entries ordered.ran 0 image.cores runs core core ordered.each
+    (of_lines image entries ordered.ran ordered.exits ordered.waves core among) (omega arith) among)
+    (answers core)

@@ -23,7 +23,7 @@ use Rattle.run_trees.proofs.Rising.{Rises, in_drop, apart_at}
 use Rattle.run_trees.proofs.FrontTrees.{mine, others', none_of_waves, among_left, among_right}
 use Rattle.run_trees.proofs.WholeTrees.{grow, further, none_before, whole_take, self, all_on, all_wider, rising_behind}
 
-one_own : (entry : Entry) → made_by entry.core (entry ∷ []) ≡ made_of entry ∷ []
+pub one_own : (entry : Entry) → made_by entry.core (entry ∷ []) ≡ made_of entry ∷ []
 one_own entry = mine entry.core entry [] (self entry.core)
 
 one_other : (entry : Entry) (core : ℕ) → (entry.core == core) ≡ false → made_by core (entry ∷ []) ≡ []
@@ -51,7 +51,7 @@ entry_goes_on image scripts entries ran exits cores begun entry tree among at as
     )
 
 -- the core at a place stands behind that place
-at_drop : (cores : List ℕ) (n d : ℕ) → n < length cores → is_among (get_or cores n d) (drop n cores) ≡ true
+pub at_drop : (cores : List ℕ) (n d : ℕ) → n < length cores → is_among (get_or cores n d) (drop n cores) ≡ true
 at_drop [] n d low = absurd (omega (arith, low))
 at_drop (x ∷ cores) zero d low = ap (λ (b : Bool). b || is_among x cores) (self x)
 at_drop (x ∷ cores) (suc n) d low = at_drop cores n d (omega (arith, low))

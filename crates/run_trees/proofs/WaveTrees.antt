@@ -138,7 +138,7 @@ either_list core (x ∷ one) other is = ⊎_elim
     (λ (e : is_among core (one ++ other) ≡ true). ⊎_elim (λ (l : is_among core one ≡ true). inl (ap (λ (b : Bool). (x == core) || b) l ∙ or_true (x == core))) (λ (r : is_among core other ≡ true). inr r) (either_list core one other e))
     (either (x == core) (is_among core (one ++ other)) is)
 
-no_cores : (entries : List Entry) → IsTrue (list_all (λ (entry : Entry). is_among entry.core []) entries) → entries ≡ []
+pub no_cores : (entries : List Entry) → IsTrue (list_all (λ (entry : Entry). is_among entry.core []) entries) → entries ≡ []
 no_cores [] is = refl
 no_cores (entry ∷ entries) is = absurd (cc)
 

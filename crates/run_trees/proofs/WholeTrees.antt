@@ -312,7 +312,7 @@ each_ended image scripts entries ran exits cores begun ends core among = ⊎_eli
     (λ (new : is_among core cores ≡ true). ends core new)
     (either_list core ran cores among)
 
-next_begun : (image : Image) (scripts : List (List Request)) (entries : List Entry) (ran : List ℕ) (exits : List Announced) (cores next : List ℕ) (begun : Wave image scripts entries ran exits cores) → Ended image scripts entries cores
+pub next_begun : (image : Image) (scripts : List (List Request)) (entries : List Entry) (ran : List ℕ) (exits : List Announced) (cores next : List ℕ) (begun : Wave image scripts entries ran exits cores) → Ended image scripts entries cores
     → next ≡ wave_behind image entries (ran ++ cores) (exits_behind image exits cores begun.before begun.wave) → IsBegun image scripts entries (ran ++ cores) (exits_behind image exits cores begun.before begun.wave) next 0
 next_begun image scripts entries ran exits cores next begun ends is =
     let all = whole_take cores in
@@ -382,7 +382,7 @@ wave_done image scripts fuel entries ran exits cores later begun few =
     (next_case image scripts fuel (entries ++ rest.0) ran exits cores (wave_behind image (entries ++ rest.0) (ran ++ cores) (exits_behind image exits cores rest.1.before rest.1.wave)) later rest.1
     (λ c among. rest.2 c (subst (λ (l : List ℕ). is_among c l ≡ true) (sym (append-nil cores)) among)) refl few)
 
-low_or_whole : (m n : ℕ) → m ≤ n → (m < n) ⊎ (m ≡ n)
+pub low_or_whole : (m n : ℕ) → m ≤ n → (m < n) ⊎ (m ≡ n)
 low_or_whole m n le = ⊎_elim (λ (e : nat_lt m n ≡ true). inl (grind (arith, nat_tests))) (λ (e : nat_lt m n ≡ false). inr (grind (arith, nat_tests))) (cases_Bool (nat_lt m n))
 
 done_by : (image : Image) (scripts : List (List Request)) (fuel : ℕ) → Later image scripts fuel → IsDone image scripts fuel

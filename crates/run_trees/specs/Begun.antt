@@ -1,5 +1,5 @@
 -- Waves that have begun: what is kept of a history that is read entry by entry, and what it stands for. This module's own.
-use Rattle.std.specs.Prelude.{◌≡◌, ℕ, ◌<◌, ◌≤◌, ◌+◌, Bool, true, false, IsTrue, List, [], ◌∷◌, ◌++◌, length, take, slice_index_or, map, Some}
+use Rattle.std.specs.Prelude.{◌≡◌, ◌≢◌, ◌⊎◌, ℕ, ◌<◌, ◌≤◌, ◌+◌, Bool, true, false, IsTrue, List, [], ◌∷◌, ◌++◌, length, take, slice_index_or, map, Some}
 use Rattle.std.specs.List.{list_all}
 use Rattle.svsm_types.specs.declared.address.Page.{Page}
 use Rattle.svsm_types.specs.declared.address.Gpa.{Gpa}
@@ -126,3 +126,74 @@ EnterGoesOn =
     → IsBegun image scripts (entries ++ entry ∷ []) ran exits cores (entered + 1)
     × HasEntered image scripts entry.core (made_by entry.core (entries ++ entry ∷ []))
     (script_tree image.host (caller_of image entry.core caa) (script_of scripts entry.core))
+
+-- nothing has begun yet: the wave is the first, in which none has entered
+abbrev pub NoneHaveBegun : Type 0
+NoneHaveBegun = (image : Image) (scripts : List (List Request)) → IsBegun image scripts [] [] [] (wave_behind image [] [] []) 0
+
+-- where all cores of the wave have ended, the next wave has begun, in which none has entered
+abbrev pub WaveGoesOn : Type 0
+WaveGoesOn =
+    (image : Image) (scripts : List (List Request)) (entries : List Entry) (ran : List ℕ) (exits : List Announced) (cores : List ℕ)
+    → (begun : IsBegun image scripts entries ran exits cores (length cores))
+    → ((core : ℕ) → is_among core cores ≡ true → HasEnded image scripts core (made_by core entries))
+    → IsBegun image scripts entries (ran ++ cores) (exits_behind image exits cores begun.before begun.wave)
+    (wave_behind image entries (ran ++ cores) (exits_behind image exits cores begun.before begun.wave)) 0
+
+-- a wave that is not over, behind which no other can begin: no core is in it, or one has yet to enter, or one has not ended
+abbrev pub IsGoing : Image → List (List Request) → List Entry → List ℕ → ℕ → Type 0
+IsGoing image scripts entries cores entered =
+    (cores ≡ [])
+    ⊎ ((entered < length cores) ⊎ ((core : ℕ) × (is_among core cores ≡ true) × (HasEnded image scripts core (made_by core entries) → ⊥)))
+
+-- the entry is the Enter of the next core, which saw its vCPU
+pub record IsNextEnter (image : Image) (cores : List ℕ) (entered : ℕ) (entry : Entry) : Type 0 where
+  pub page : Page
+  pub caa : Gpa
+  pub within : entered < length cores
+  pub core_is : entry.core ≡ slice_index_or cores entered entry.core
+  pub step_is : entry.step ≡ enters image entry.core
+  pub answer_is : entry.answer ≡ Seen page caa
+
+-- all cores have entered, and the entry is the step that its core asks for
+pub record IsNextStep (image : Image) (scripts : List (List Request)) (entries : List Entry) (cores : List ℕ) (entered : ℕ)
+    (entry : Entry) : Type 0 where
+  pub tree : Tree
+  pub all : entered ≡ length cores
+  pub among : is_among entry.core cores ≡ true
+  pub has_entered : HasEntered image scripts entry.core (made_by entry.core entries) tree
+  pub asks : asked_of tree ≡ Some entry.step
+
+-- where a wave is not over and the list with one entry more is still a front, that entry is the next Enter or its core's next step
+abbrev pub FrontsGoOn : Type 0
+FrontsGoOn =
+    (image : Image) (scripts : List (List Request)) (entries : List Entry) (ran : List ℕ) (exits : List Announced) (cores : List ℕ)
+    (entered : ℕ) → IsBegun image scripts entries ran exits cores entered → IsGoing image scripts entries cores entered
+    → (entry : Entry) → GivesAnswers (entries ++ entry ∷ []) → IsFront image scripts (entries ++ entry ∷ [])
+    → IsNextEnter image cores entered entry ⊎ IsNextStep image scripts entries cores entered entry
+
+-- a list whose wave has cores and is not over is not whole
+abbrev pub WholeAreGone : Type 0
+WholeAreGone =
+    (image : Image) (scripts : List (List Request)) (entries : List Entry) (ran : List ℕ) (exits : List Announced) (cores : List ℕ)
+    (entered : ℕ) → IsBegun image scripts entries ran exits cores entered → IsGoing image scripts entries cores entered → cores ≢ []
+    → GivesAnswers entries → (runs : List CoreRun) → IsOrdered image scripts entries runs → ⊥
+
+-- where no core is in the wave, the list is whole, with what its cores gave
+abbrev pub NoneAreLeft : Type 0
+NoneAreLeft =
+    (image : Image) (scripts : List (List Request)) (entries : List Entry) (ran : List ℕ) (exits : List Announced)
+    → IsBegun image scripts entries ran exits [] 0 → (runs : List CoreRun) × IsOrdered image scripts entries runs
+
+-- where the same cores ran before, with the same exits, a list and the list with more entries have the same entries before their waves
+abbrev pub BeginsAreOne : Type 0
+BeginsAreOne =
+    (image : Image) (scripts : List (List Request)) (entries more : List Entry) (ran : List ℕ) (exits : List Announced) (cores : List ℕ)
+    (entered : ℕ) (now_in : List ℕ) (now : ℕ) → (one : IsBegun image scripts entries ran exits cores entered)
+    → (other : IsBegun image scripts (entries ++ more) ran exits now_in now) → other.before ≡ one.before
+
+-- the steps of a core lead to one place of the tree of its script, and to no other
+abbrev pub EnteredAreOne : Type 0
+EnteredAreOne =
+    (image : Image) (scripts : List (List Request)) (core : ℕ) (made : List Made) (one other : Tree)
+    → HasEntered image scripts core made one → HasEntered image scripts core made other → one ≡ other

@@ -2,6 +2,7 @@ use Rattle.run_trees.proofs.FrontTrees.{fronts_begun}
 use Rattle.run_trees.proofs.WaveTrees.{ended_order}
 use Rattle.run_trees.proofs.WholeTrees.{begun_front}
 use Rattle.run_trees.proofs.MoreTrees.{enter_goes_on, entry_goes_on}
+use Rattle.run_trees.proofs.NextTrees.{none_have, wave_goes_on, fronts_go_on, whole_are_gone, none_are_left, begins_are_one, entered_are_one}
 use Rattle.run_trees.proofs.waves_have_begun.Goals as goal
 
 pub returns-clause-fronts : goal.returns-clause-fronts
@@ -18,3 +19,24 @@ returns-clause-goes_on c = entry_goes_on
 
 pub returns-clause-enters : goal.returns-clause-enters
 returns-clause-enters c = enter_goes_on
+
+pub returns-clause-wave_goes_on : goal.returns-clause-wave_goes_on
+returns-clause-wave_goes_on c = wave_goes_on
+
+pub returns-clause-none_yet : goal.returns-clause-none_yet
+returns-clause-none_yet c = none_have
+
+pub returns-clause-fronts_go_on : goal.returns-clause-fronts_go_on
+returns-clause-fronts_go_on c = fronts_go_on
+
+pub returns-clause-whole_gone : goal.returns-clause-whole_gone
+returns-clause-whole_gone c = whole_are_gone
+
+pub returns-clause-none_left : goal.returns-clause-none_left
+returns-clause-none_left c = none_are_left
+
+pub returns-clause-one_begin : goal.returns-clause-one_begin
+returns-clause-one_begin c = begins_are_one
+
+pub returns-clause-one_place : goal.returns-clause-one_place
+returns-clause-one_place c = entered_are_one
