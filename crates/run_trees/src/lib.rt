@@ -17,7 +17,8 @@ pub fn trees_are_runs()
 /// all cores have ended and no wave follows, what is kept is of a whole list. The next core of a wave may enter, and a core of a wave that
 /// has entered may make the step that it asks for. Where all have ended, the next wave begins; where no core is in it, the list is whole.
 /// While a wave is not over, the list is not whole where the wave has cores, and an entry that is neither the next Enter nor its core's
-/// next step makes it no begin any more. The entries before a wave are one with its cores, and so is a core's place in its tree.
+/// next step makes it no begin any more. The cores that ran fix which entries stand before a wave, and what a core made its place in its
+/// tree.
 pub fn waves_have_begun()
     ensures fronts { FrontsAreBegun }
     ensures begun { BegunAreFronts }
