@@ -11,15 +11,15 @@ use Rattle.svsm_steps.specs.declared.answer.Answer.TheVariants.{Seen}
 use Rattle.svsm_steps.specs.declared.entry.Entry.{Entry}
 use Rattle.svsm_steps.specs.Made.{Made, made_of, made_by}
 use Rattle.svsm_steps.specs.Announced.{Announced}
-use Rattle.svsm_calls.specs.Waves.{is_among, next_wave, enters, has_refused, AreOver}
+use Rattle.svsm_calls.specs.Waves.{is_among, next_wave, enters, has_refused, AreWaves, AreOver}
 use Rattle.run_trees.specs.Tree.{Tree, asked_of, Follows}
-use Rattle.run_trees.specs.Begun.{cores_behind, wave_behind, HasEntered, HasEnded, IsBegun, IsGoing, IsNextEnter, NoneHaveBegun, WaveGoesOn, FrontsGoOn, WholeAreGone, NoneAreLeft, BeginsAreOne, EnteredAreOne}
-use Rattle.run_trees.proofs.WaveTrees.{made_append, none_made, left, no_cores, ended_order}
+use Rattle.run_trees.specs.Begun.{cores_behind, wave_behind, HasEntered, HasEnded, IsBegun, IsGoing, IsNextEnter, NoneHaveBegun, WaveGoesOn, FrontsGoOn, WholeAreGone, NoneAreLeft, BeginsAreOne, EnteredAreOne, exits_behind, IsInWave, NewMadeNone, WaveFills, WaveIsOver}
+use Rattle.run_trees.proofs.WaveTrees.{made_append, none_made, fresh_behind, left, no_cores, ended_order}
 use Rattle.run_trees.proofs.Rising.{Rises, in_drop, apart_at}
-use Rattle.run_trees.proofs.FrontTrees.{cut, tails, among_left, none_have_begun, fronts_begun, all_ended}
+use Rattle.run_trees.proofs.FrontTrees.{cut, tails, take_none, none_of_waves, among_left, none_have_begun, fronts_begun, all_ended}
 use Rattle.run_trees.proofs.WholeTrees.{none_before, whole_take, low_or_whole, rising_behind, next_begun}
 use Rattle.run_trees.proofs.MoreTrees.{one_own, at_drop}
-use Rattle.run_trees.proofs.OneTrees.{leads_on, all_back, AllEnded, AllUnderWay, over_ends, IsOverWave, Grows, stays, grows, all_grow, reaches, compare}
+use Rattle.run_trees.proofs.OneTrees.{leads_on, all_back, AllEnded, over_ends, IsOverWave, Grows, stays, grows, all_grow, reaches, compare}
 
 pub wave_goes_on : WaveGoesOn
 wave_goes_on image scripts entries ran exits cores begun over = next_begun image scripts entries ran exits cores _ begun over refl
@@ -29,20 +29,8 @@ none_have image scripts = none_have_begun image scripts
 
 -- ONE WAVE
 
--- what is kept of the entries of a wave
-record InWave (image : Image) (scripts : List (List Request)) (cores : List ℕ) (entered : ℕ) (wave : List Entry) : Type 0 where
-  pub first : List Entry
-  pub others : List Entry
-  pub begin : wave ≡ first ++ others
-  pub in_order : map (λ (entry : Entry). entry.core) first ≡ take entered cores
-  pub enter_steps : map (λ (entry : Entry). entry.step) first ≡ map (enters image) (take entered cores)
-  pub within : entered ≤ length cores
-  pub waiting : entered < length cores → others ≡ []
-  pub of_cores : IsTrue (list_all (λ (entry : Entry). is_among entry.core (take entered cores)) wave)
-  pub each : AllUnderWay image scripts (take entered cores) wave
-
 wave_of : (image : Image) (scripts : List (List Request)) (entries : List Entry) (ran : List ℕ) (exits : List Announced) (cores : List ℕ) (entered : ℕ) (begun : IsBegun image scripts entries ran exits cores entered)
-    → InWave image scripts cores entered begun.wave
+    → IsInWave image scripts cores entered begun.wave
 wave_of image scripts entries ran exits cores entered begun = record {
   first = begun.first;
   others = begun.others;
@@ -55,11 +43,11 @@ wave_of image scripts entries ran exits cores entered begun = record {
   each = begun.each;
 }
 
-first_long : (image : Image) (scripts : List (List Request)) (cores : List ℕ) (entered : ℕ) (wave : List Entry) (is : InWave image scripts cores entered wave) → length is.first ≡ entered
+first_long : (image : Image) (scripts : List (List Request)) (cores : List ℕ) (entered : ℕ) (wave : List Entry) (is : IsInWave image scripts cores entered wave) → length is.first ≡ entered
 first_long image scripts cores entered wave is =
     sym (length-map is.first (λ (entry : Entry). entry.core)) ∙ ap length is.in_order ∙ length-take-le entered cores is.within
 
-wave_long : (image : Image) (scripts : List (List Request)) (cores : List ℕ) (entered : ℕ) (wave : List Entry) (is : InWave image scripts cores entered wave) → length wave ≡ entered + length is.others
+wave_long : (image : Image) (scripts : List (List Request)) (cores : List ℕ) (entered : ℕ) (wave : List Entry) (is : IsInWave image scripts cores entered wave) → length wave ≡ entered + length is.others
 wave_long image scripts cores entered wave is =
     ap length is.begin ∙ length-append is.first is.others ∙ ap (λ (n : ℕ). n + length is.others) (first_long image scripts cores entered wave is)
 
@@ -73,7 +61,7 @@ last_same one other x y same is =
 
 -- where a core has yet to enter, one more entry is its Enter
 next_enter : (image : Image) (scripts : List (List Request)) (cores : List ℕ) (entered now : ℕ) (wave : List Entry) (entry : Entry) → Rises 0 cores
-    → InWave image scripts cores entered wave → InWave image scripts cores now (wave ++ entry ∷ []) → entered < length cores → IsNextEnter image cores entered entry
+    → IsInWave image scripts cores entered wave → IsInWave image scripts cores now (wave ++ entry ∷ []) → entered < length cores → IsNextEnter image cores entered entry
 next_enter image scripts cores entered now wave entry rises one other low =
     let core : Entry → ℕ = λ e. e.core in
     let step : Entry → Step = λ e. e.step in
@@ -122,7 +110,7 @@ NextStep image scripts cores wave entry =
 
 -- where all have entered, one more entry is the step that its core asks for
 next_step : (image : Image) (scripts : List (List Request)) (cores : List ℕ) (now : ℕ) (wave : List Entry) (entry : Entry)
-    → InWave image scripts cores (length cores) wave → InWave image scripts cores now (wave ++ entry ∷ []) → NextStep image scripts cores wave entry
+    → IsInWave image scripts cores (length cores) wave → IsInWave image scripts cores now (wave ++ entry ∷ []) → NextStep image scripts cores wave entry
 next_step image scripts cores now wave entry one other =
     let long : length cores + length one.others + 1 ≡ now + length other.others =
     omega (arith, length-append wave (entry ∷ []), wave_long image scripts cores (length cores) wave one, wave_long image scripts cores now (wave ++ entry ∷ []) other) in
@@ -147,17 +135,17 @@ abbrev NextOf : Image → List (List Request) → List ℕ → ℕ → List Entr
 NextOf image scripts cores entered wave entry = IsNextEnter image cores entered entry ⊎ ((entered ≡ length cores) × NextStep image scripts cores wave entry)
 
 next_of : (image : Image) (scripts : List (List Request)) (cores : List ℕ) (entered now : ℕ) (wave : List Entry) (entry : Entry) → Rises 0 cores
-    → InWave image scripts cores entered wave → InWave image scripts cores now (wave ++ entry ∷ []) → NextOf image scripts cores entered wave entry
+    → IsInWave image scripts cores entered wave → IsInWave image scripts cores now (wave ++ entry ∷ []) → NextOf image scripts cores entered wave entry
 next_of image scripts cores entered now wave entry rises one other = ⊎_elim
     (λ (low : entered < length cores). inl (next_enter image scripts cores entered now wave entry rises one other low))
-    (λ (full : entered ≡ length cores). inr (full, next_step image scripts cores now wave entry (subst (λ (n : ℕ). InWave image scripts cores n wave) full one) other))
+    (λ (full : entered ≡ length cores). inr (full, next_step image scripts cores now wave entry (subst (λ (n : ℕ). IsInWave image scripts cores n wave) full one) other))
     (low_or_whole entered (length cores) one.within)
 
 -- A WAVE THAT IS OVER, AND ONE THAT IS NOT
 
 -- a wave that is over is one of whose cores all have entered
 over_in : (image : Image) (scripts : List (List Request)) (before : List Entry) (ran : List ℕ) (exits : List Announced) (wave : List Entry) → IsOverWave image scripts before ran exits wave
-    → InWave image scripts (next_wave image before ran) (length (next_wave image before ran)) wave
+    → IsInWave image scripts (next_wave image before ran) (length (next_wave image before ran)) wave
 over_in image scripts before ran exits wave over =
     let cores = next_wave image before ran in
     let all : take (length cores) cores ≡ cores = whole_take cores in
@@ -182,7 +170,7 @@ Going image scripts cores entered wave =
 nothing_made : (image : Image) (scripts : List (List Request)) (core : ℕ) (made : List Made) → made ≡ [] → HasEnded image scripts core made → ⊥
 nothing_made image scripts core made none over = let no = sym none ∙ over.entered.begins in cc
 
-not_going : (image : Image) (scripts : List (List Request)) (cores : List ℕ) (entered : ℕ) (wave : List Entry) → Rises 0 cores → cores ≢ [] → InWave image scripts cores entered wave
+not_going : (image : Image) (scripts : List (List Request)) (cores : List ℕ) (entered : ℕ) (wave : List Entry) → Rises 0 cores → cores ≢ [] → IsInWave image scripts cores entered wave
     → AllEnded image scripts cores wave → Going image scripts cores entered wave → ⊥
 not_going image scripts cores entered wave rises some is over going = ⊎_elim
     (λ (none : cores ≡ []). some none)
@@ -203,7 +191,7 @@ in_front cores entered core is =
     subst (λ (l : List ℕ). is_among core l ≡ true) (take-append-drop entered cores) (among_left core (take entered cores) (drop entered cores) is)
 
 -- behind a wave that is over none of its entries follow
-over_all : (image : Image) (scripts : List (List Request)) (cores : List ℕ) (entered : ℕ) (wave more : List Entry) → AllEnded image scripts cores wave → InWave image scripts cores entered (wave ++ more)
+over_all : (image : Image) (scripts : List (List Request)) (cores : List ℕ) (entered : ℕ) (wave more : List Entry) → AllEnded image scripts cores wave → IsInWave image scripts cores entered (wave ++ more)
     → more ≡ []
 over_all image scripts cores entered wave more over is =
     over_ends image scripts (take entered cores) wave more is.of_cores (λ core among. over core (in_front cores entered core among)) is.each
@@ -228,13 +216,13 @@ inner_of before wave more tail after rest same reach =
 ahead : (image : Image) (scripts : List (List Request)) (before : List Entry) (ran : List ℕ) (exits : List Announced) (cores : List ℕ) (entered : ℕ) (wave : List Entry) (entry : Entry)
     (after : List Entry) (after_ran : List ℕ) (after_exits : List Announced) (now_in : List ℕ) (now : ℕ) (tail : List Entry)
     → Grows image scripts before ran exits after after_ran after_exits
-    → cores ≡ wave_behind image before ran exits → InWave image scripts cores entered wave → Going image scripts cores entered wave
-    → now_in ≡ wave_behind image after after_ran after_exits → InWave image scripts now_in now tail
+    → cores ≡ wave_behind image before ran exits → IsInWave image scripts cores entered wave → Going image scripts cores entered wave
+    → now_in ≡ wave_behind image after after_ran after_exits → IsInWave image scripts now_in now tail
     → before ++ (wave ++ entry ∷ []) ≡ after ++ tail → NextOf image scripts cores entered wave entry
 ahead image scripts _ _ _ cores entered wave entry _ _ _ now_in now tail (stays before ran exits) next is going next' is' same =
     let tail_is : tail ≡ wave ++ entry ∷ [] = sym (append_cancel_left before (wave ++ entry ∷ []) tail same) in
     next_of image scripts cores entered now wave entry (rising_wave image before ran exits cores next) is
-    (subst (λ (l : List ℕ). InWave image scripts l now (wave ++ entry ∷ [])) (next' ∙ sym next) (subst (λ (w : List Entry). InWave image scripts now_in now w) tail_is is'))
+    (subst (λ (l : List ℕ). IsInWave image scripts l now (wave ++ entry ∷ [])) (next' ∙ sym next) (subst (λ (w : List Entry). IsInWave image scripts now_in now w) tail_is is'))
 ahead image scripts _ _ _ cores entered wave entry _ _ _ now_in now tail (grows before ran exits first after after_ran after_exits over rest) next is going next' is' same =
     let its = next_wave image before ran in
     let here : cores ≡ its = next ∙ ap (λ (b : Bool). cores_behind b its) over.taken in
@@ -246,15 +234,15 @@ ahead image scripts _ _ _ cores entered wave entry _ _ _ now_in now tail (grows 
     λ wave_is. not_going image scripts cores entered wave rises (λ none. over.some (sym here ∙ none)) is (subst (λ (w : List Entry). AllEnded image scripts cores w) (sym wave_is) full) going in
     ⊎_elim
     (λ short.
-    let nothing : short.0 ≡ [] = over_all image scripts cores entered first short.0 full (subst (λ (w : List Entry). InWave image scripts cores entered w) short.1 is) in
+    let nothing : short.0 ≡ [] = over_all image scripts cores entered first short.0 full (subst (λ (w : List Entry). IsInWave image scripts cores entered w) short.1 is) in
     absurd (gone (short.1 ∙ ap (λ (l : List Entry). first ++ l) nothing ∙ append-nil first)))
     (λ long. ⊎_elim
     (λ (none : long.0 ≡ []). absurd (gone (sym (long.1 ∙ ap (λ (l : List Entry). wave ++ l) none ∙ append-nil wave))))
     (λ (last : long.0 ≡ entry ∷ []).
     let first_is : first ≡ wave ++ entry ∷ [] = long.1 ∙ ap (λ (l : List Entry). wave ++ l) last in
     next_of image scripts cores entered (length its) wave entry rises is
-    (subst (λ (l : List ℕ). InWave image scripts l (length its) (wave ++ entry ∷ [])) (sym here)
-    (subst (λ (w : List Entry). InWave image scripts its (length its) w) first_is (over_in image scripts before ran exits first over))))
+    (subst (λ (l : List ℕ). IsInWave image scripts l (length its) (wave ++ entry ∷ [])) (sym here)
+    (subst (λ (w : List Entry). IsInWave image scripts its (length its) w) first_is (over_in image scripts before ran exits first over))))
     (one_front entry long.0 (reach.0 ++ tail) long.2))
     (cut first (reach.0 ++ tail) wave (entry ∷ []) inner)
 
@@ -265,8 +253,8 @@ no_end more wave entry is = omega (arith, ap length is, length-append more (wave
 behind : (image : Image) (scripts : List (List Request)) (before : List Entry) (ran : List ℕ) (exits : List Announced) (cores : List ℕ) (entered : ℕ) (wave : List Entry) (entry : Entry)
     (after : List Entry) (after_ran : List ℕ) (after_exits : List Announced) (now_in : List ℕ) (now : ℕ) (tail : List Entry)
     → Grows image scripts after after_ran after_exits before ran exits
-    → cores ≡ wave_behind image before ran exits → InWave image scripts cores entered wave → Going image scripts cores entered wave
-    → now_in ≡ wave_behind image after after_ran after_exits → InWave image scripts now_in now tail
+    → cores ≡ wave_behind image before ran exits → IsInWave image scripts cores entered wave → Going image scripts cores entered wave
+    → now_in ≡ wave_behind image after after_ran after_exits → IsInWave image scripts now_in now tail
     → before ++ (wave ++ entry ∷ []) ≡ after ++ tail → NextOf image scripts cores entered wave entry
 behind image scripts _ _ _ cores entered wave entry _ _ _ now_in now tail (stays before ran exits) next is going next' is' same =
     ahead image scripts before ran exits cores entered wave entry before ran exits now_in now tail (stays before ran exits) next is going next' is' same
@@ -277,7 +265,7 @@ behind image scripts _ _ _ cores entered wave entry _ _ _ now_in now tail (grows
     let inner : first ++ (reach.0 ++ (wave ++ entry ∷ [])) ≡ tail = inner_of after first reach.0 (wave ++ entry ∷ []) before tail (sym same) reach.1 in
     let full : AllEnded image scripts now_in first = subst (λ (l : List ℕ). AllEnded image scripts l first) (sym there) over.over in
     absurd (no_end reach.0 wave entry
-    (over_all image scripts now_in now first (reach.0 ++ (wave ++ entry ∷ [])) full (subst (λ (w : List Entry). InWave image scripts now_in now w) (sym inner) is')))
+    (over_all image scripts now_in now first (reach.0 ++ (wave ++ entry ∷ [])) full (subst (λ (w : List Entry). IsInWave image scripts now_in now w) (sym inner) is')))
 
 -- what a core of the wave made in all the list, it made in the wave
 going_in : (image : Image) (scripts : List (List Request)) (entries : List Entry) (ran : List ℕ) (exits : List Announced) (cores : List ℕ) (entered : ℕ) (begun : IsBegun image scripts entries ran exits cores entered)
@@ -324,7 +312,7 @@ over_none false all over = over
 -- a whole list goes on from the place of this wave
 no_whole : (image : Image) (scripts : List (List Request)) (before : List Entry) (ran : List ℕ) (exits : List Announced) (cores : List ℕ) (entered : ℕ) (wave : List Entry)
     (all : List Entry) (all_ran : List ℕ) (all_exits : List Announced) → Grows image scripts before ran exits all all_ran all_exits
-    → cores ≡ wave_behind image before ran exits → InWave image scripts cores entered wave → Going image scripts cores entered wave → cores ≢ []
+    → cores ≡ wave_behind image before ran exits → IsInWave image scripts cores entered wave → Going image scripts cores entered wave → cores ≢ []
     → AreOver (has_refused image all_exits) (next_wave image all all_ran) → before ++ wave ≡ all → ⊥
 no_whole image scripts _ _ _ cores entered wave _ _ _ (stays before ran exits) next is going some over same =
     some (next ∙ over_none (has_refused image exits) (next_wave image before ran) over)
@@ -334,7 +322,7 @@ no_whole image scripts _ _ _ cores entered wave _ _ _ (grows before ran exits fi
     let reach = reaches image scripts (before ++ first) (ran ++ its) _ all all_ran all_exits rest in
     let inner : first ++ (reach.0 ++ []) ≡ wave = inner_of before first reach.0 [] all wave (same ∙ sym (append-nil all)) reach.1 in
     let full : AllEnded image scripts cores first = subst (λ (l : List ℕ). AllEnded image scripts l first) (sym here) ended.over in
-    let nothing : reach.0 ++ [] ≡ [] = over_all image scripts cores entered first (reach.0 ++ []) full (subst (λ (w : List Entry). InWave image scripts cores entered w) (sym inner) is) in
+    let nothing : reach.0 ++ [] ≡ [] = over_all image scripts cores entered first (reach.0 ++ []) full (subst (λ (w : List Entry). IsInWave image scripts cores entered w) (sym inner) is) in
     let wave_is : first ≡ wave = sym (append-nil first) ∙ ap (λ (l : List Entry). first ++ l) (sym nothing) ∙ inner in
     not_going image scripts cores entered wave (rising_wave image before ran exits cores next) some is (subst (λ (w : List Entry). AllEnded image scripts cores w) wave_is full) going
 
@@ -347,7 +335,7 @@ some_entries image scripts before ran exits wave over none =
 -- the place of this wave goes on from a whole list
 whole_back : (image : Image) (scripts : List (List Request)) (before : List Entry) (ran : List ℕ) (exits : List Announced) (cores : List ℕ) (entered : ℕ) (wave : List Entry)
     (all : List Entry) (all_ran : List ℕ) (all_exits : List Announced) → Grows image scripts all all_ran all_exits before ran exits
-    → cores ≡ wave_behind image before ran exits → InWave image scripts cores entered wave → Going image scripts cores entered wave → cores ≢ []
+    → cores ≡ wave_behind image before ran exits → IsInWave image scripts cores entered wave → Going image scripts cores entered wave → cores ≢ []
     → AreOver (has_refused image all_exits) (next_wave image all all_ran) → before ++ wave ≡ all → ⊥
 whole_back image scripts _ _ _ cores entered wave _ _ _ (stays before ran exits) next is going some over same =
     no_whole image scripts before ran exits cores entered wave before ran exits (stays before ran exits) next is going some over same
@@ -402,3 +390,50 @@ begins_are_one image scripts entries more ran exits cores entered now_in now one
 pub entered_are_one : EnteredAreOne
 entered_are_one image scripts core made one other here there =
     sym (leads_on image scripts core made [] one other here (subst (λ (m : List Made). HasEntered image scripts core m other) (sym (append-nil made)) there))
+
+-- A WAVE FROM ITS BEGIN
+
+at_begin : (image : Image) (scripts : List (List Request)) (entries : List Entry) (ran : List ℕ) (exits : List Announced) (cores : List ℕ) (begun : IsBegun image scripts entries ran exits cores 0) → begun.before ≡ entries
+at_begin image scripts entries ran exits cores begun =
+    let none : begun.wave ≡ [] = no_cores begun.wave (subst (λ (l : List ℕ). IsTrue (list_all (λ (entry : Entry). is_among entry.core l) begun.wave)) (take_none cores) begun.of_cores) in
+    sym (begun.split ∙ ap (λ (l : List Entry). begun.before ++ l) none ∙ append-nil begun.before)
+
+pub new_made_none : NewMadeNone
+new_made_none image scripts entries ran exits cores begun core among =
+    ap (made_by core) (sym (at_begin image scripts entries ran exits cores begun))
+    ∙ none_of_waves image begun.before ran exits core begun.waves
+    (λ old. fresh_behind image begun.before ran exits core (subst (λ (l : List ℕ). is_among core l ≡ true) begun.next among) old)
+
+pub wave_fills : WaveFills
+wave_fills image scripts entries ran exits cores begun entered wave is =
+    let same = at_begin image scripts entries ran exits cores begun in
+    let on : IsBegun image scripts (entries ++ wave) ran exits cores entered = record {
+      before = entries;
+      wave = wave;
+      first = is.first;
+      others = is.others;
+      split = refl;
+      waves = subst (λ (l : List Entry). AreWaves image l ran exits) same begun.waves;
+      whole = λ core among. subst (λ (l : List Entry). HasEnded image scripts core (made_by core l)) same (begun.whole core among);
+      next = subst (λ (l : List Entry). cores ≡ wave_behind image l ran exits) same begun.next;
+      begin = is.begin;
+      in_order = is.in_order;
+      enter_steps = is.enter_steps;
+      within = is.within;
+      waiting = is.waiting;
+      of_cores = is.of_cores;
+      each = is.each;
+    } in
+    (on, refl, refl)
+
+pub wave_is_over : WaveIsOver
+wave_is_over image scripts entries ran exits cores begun wave is over =
+    let fills = wave_fills image scripts entries ran exits cores begun (length cores) wave is in
+    let told : exits_behind image exits cores fills.0.before fills.0.wave ≡ exits_behind image exits cores entries wave =
+    ap (λ (l : List Entry). exits_behind image exits cores l fills.0.wave) fills.1 ∙ ap (λ (l : List Entry). exits_behind image exits cores entries l) fills.2 in
+    let ends : (core : ℕ) → is_among core cores ≡ true → HasEnded image scripts core (made_by core (entries ++ wave)) =
+    λ core among. subst (λ (m : List Made). HasEnded image scripts core m)
+    (sym (made_append core entries wave ∙ ap (λ (m : List Made). m ++ made_by core wave) (new_made_none image scripts entries ran exits cores begun core among)))
+    (over core among) in
+    subst (λ (e : List Announced). IsBegun image scripts (entries ++ wave) (ran ++ cores) e (wave_behind image (entries ++ wave) (ran ++ cores) e) 0) told
+    (wave_goes_on image scripts (entries ++ wave) ran exits cores fills.0 ends)

@@ -197,3 +197,37 @@ abbrev pub EnteredAreOne : Type 0
 EnteredAreOne =
     (image : Image) (scripts : List (List Request)) (core : ℕ) (made : List Made) (one other : Tree)
     → HasEntered image scripts core made one → HasEntered image scripts core made other → one ≡ other
+
+-- the entries of a wave of these cores so far, of which the first have entered
+pub record IsInWave (image : Image) (scripts : List (List Request)) (cores : List ℕ) (entered : ℕ) (wave : List Entry) : Type 0 where
+  pub first : List Entry
+  pub others : List Entry
+  pub begin : wave ≡ first ++ others
+  pub in_order : map (λ (entry : Entry). entry.core) first ≡ take entered cores
+  pub enter_steps : map (λ (entry : Entry). entry.step) first ≡ map (enters image) (take entered cores)
+  pub within : entered ≤ length cores
+  pub waiting : entered < length cores → others ≡ []
+  pub of_cores : IsTrue (list_all (λ (entry : Entry). is_among entry.core (take entered cores)) wave)
+  pub each : (core : ℕ) → is_among core (take entered cores) ≡ true → IsUnderWay image scripts core (made_by core wave)
+
+-- where a wave begins, its cores have made nothing
+abbrev pub NewMadeNone : Type 0
+NewMadeNone =
+    (image : Image) (scripts : List (List Request)) (entries : List Entry) (ran : List ℕ) (exits : List Announced) (cores : List ℕ)
+    → IsBegun image scripts entries ran exits cores 0 → (core : ℕ) → is_among core cores ≡ true → made_by core entries ≡ []
+
+-- where a wave begins, and these are its entries so far, it has begun so in the list with them, and they stand in it
+abbrev pub WaveFills : Type 0
+WaveFills =
+    (image : Image) (scripts : List (List Request)) (entries : List Entry) (ran : List ℕ) (exits : List Announced) (cores : List ℕ)
+    → IsBegun image scripts entries ran exits cores 0 → (entered : ℕ) (wave : List Entry) → IsInWave image scripts cores entered wave
+    → (on : IsBegun image scripts (entries ++ wave) ran exits cores entered) × (on.before ≡ entries) × (on.wave ≡ wave)
+
+-- and where all its cores have ended with them, the next wave begins behind them
+abbrev pub WaveIsOver : Type 0
+WaveIsOver =
+    (image : Image) (scripts : List (List Request)) (entries : List Entry) (ran : List ℕ) (exits : List Announced) (cores : List ℕ)
+    → IsBegun image scripts entries ran exits cores 0 → (wave : List Entry) → IsInWave image scripts cores (length cores) wave
+    → ((core : ℕ) → is_among core cores ≡ true → HasEnded image scripts core (made_by core wave))
+    → IsBegun image scripts (entries ++ wave) (ran ++ cores) (exits_behind image exits cores entries wave)
+    (wave_behind image (entries ++ wave) (ran ++ cores) (exits_behind image exits cores entries wave)) 0

@@ -2,7 +2,7 @@ use Rattle.run_trees.proofs.FrontTrees.{fronts_begun}
 use Rattle.run_trees.proofs.WaveTrees.{ended_order}
 use Rattle.run_trees.proofs.WholeTrees.{begun_front}
 use Rattle.run_trees.proofs.MoreTrees.{enter_goes_on, entry_goes_on}
-use Rattle.run_trees.proofs.NextTrees.{none_have, wave_goes_on, fronts_go_on, whole_are_gone, none_are_left, begins_are_one, entered_are_one}
+use Rattle.run_trees.proofs.NextTrees.{none_have, wave_goes_on, fronts_go_on, whole_are_gone, none_are_left, begins_are_one, entered_are_one, new_made_none, wave_fills, wave_is_over}
 use Rattle.run_trees.proofs.waves_have_begun.Goals as goal
 
 pub returns-clause-fronts : goal.returns-clause-fronts
@@ -40,3 +40,12 @@ returns-clause-one_begin c = begins_are_one
 
 pub returns-clause-one_place : goal.returns-clause-one_place
 returns-clause-one_place c = entered_are_one
+
+pub returns-clause-new_made_none : goal.returns-clause-new_made_none
+returns-clause-new_made_none c = new_made_none
+
+pub returns-clause-wave_fills : goal.returns-clause-wave_fills
+returns-clause-wave_fills c = wave_fills
+
+pub returns-clause-wave_is_over : goal.returns-clause-wave_is_over
+returns-clause-wave_is_over c = wave_is_over
