@@ -1,6 +1,5 @@
 -- The requests of a boot in the GHCB MSR (AMD 56421, 'GHCB MSR protocol'); their order and conditions are this module's own.
 use Rattle.std.specs.Prelude.{◌≡◌, ℕ, ◌==◌, nat_le, Bool, true, false, not, ◌&&◌, ◌||◌, Option, None, Some, Result, Ok, Err, List, [], ◌∷◌, ◌++◌, MatchBool}
-use Rattle.ghcb_msr.specs.declared.request.MsrRequest.{MsrRequest}
 use Rattle.ghcb_msr.specs.declared.request.MsrRequest.TheVariants as Request
 use Rattle.ghcb_msr.specs.declared.request.MsrReply.{MsrReply}
 use Rattle.ghcb_msr.specs.declared.request.MsrReply.TheVariants as Reply

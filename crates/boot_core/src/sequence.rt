@@ -10,6 +10,7 @@ ghost use Rattle.boot_core.specs.Entries.{decoded_entry};
 ghost use Rattle.boot_core.specs.Regions.{ChangesOne, CountsBy, TellsStill};
 ghost use Rattle.boot_core.specs.Goes.{GoesBoot};
 ghost use Rattle.boot_core.specs.Boots.{SaidBy, SaidAsDue, BootEnds, BootEndsInOneWay};
+ghost use Rattle.boot_core.specs.Worked.{WorkedBoots};
 
 use crate::asks::{ask_first, ask_last};
 use crate::batches::run_batches;
@@ -122,4 +123,10 @@ pub fn boot_image<R: Scene>(
 /// The boot of an image against the host of its host lines ends in one way.
 pub fn boot_ends_in_one_way()
     ensures { BootEndsInOneWay }
+{}
+
+/// Worked boots of an image that accepts a page: two that end well, one of them where the host stores past the end of its batch, and
+/// three that the host refuses, by computation.
+pub fn worked_boots()
+    ensures { WorkedBoots }
 {}

@@ -1,5 +1,4 @@
-use Rattle.std.proofs.Common.{◌≡◌, ℕ, List, length, arith, ap, ◌∙◌, subst}
-use Rattle.std.specs.Prelude.{◌<◌, ◌^◌}
+use Rattle.std.proofs.Common.{◌≡◌, ℕ, List, length, arith, ap, ◌∙◌}
 use Rattle.svsm_types.specs.declared.image.HostLine.{HostLine}
 use Rattle.ghcb_page.specs.Bytes.{with_u64}
 use Rattle.svsm_steps.specs.Announced.{ap_error}

@@ -1,4 +1,4 @@
-use Rattle.std.proofs.Common.{◌≡◌, ℕ, ◌+◌, ◌-◌, ◌^◌, List, ◌++◌, Option, length, take, drop, min, arith, ap, ◌∙◌}
+use Rattle.std.proofs.Common.{◌≡◌, ℕ, List, Option, length, arith, ap, ◌∙◌}
 use Rattle.boot_core.specs.Sim.{Sim, returned, sim_return, one_later}
 use Rattle.boot_core.proofs.IndexLemmas.{returned_by_kept}
 use Rattle.boot_core.proofs.LentLemmas.{written}
