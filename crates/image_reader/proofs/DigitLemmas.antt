@@ -1,74 +1,17 @@
 -- Digits, bytes and words.
-use Rattle.std.proofs.Common.{◌≡◌, ℕ, zero, suc, ◌+◌, ◌*◌, ◌/◌, ◌%◌, ◌<◌, ◌≤◌, Bool, true, false, ◌&&◌, ◌⊎◌, inl, inr, List, [], ◌∷◌, ◌++◌, length, take, drop, get_or, set, Result, Ok, Err, Option, Some, None, refl, sym, ap, subst, ◌∙◌, arith, append_assoc, length-drop}
-use Rattle.std.specs.Prelude.{if◌then◌else◌, option_map, nat_lt, nat_le, ◌==◌}
+use Rattle.std.proofs.Common.{◌≡◌, ℕ, zero, suc, ◌+◌, ◌*◌, ◌/◌, ◌%◌, ◌<◌, ◌≤◌, Bool, true, false, ◌&&◌, ◌⊎◌, inl, inr, List, [], ◌∷◌, ◌++◌, length, take, drop, Result, Ok, Err, Option, Some, None, refl, sym, ap, subst, ◌∙◌, arith, append_assoc, length-drop}
+use Rattle.std.specs.Prelude.{if◌then◌else◌, option_map, nat_lt, ◌==◌}
 use Rattle.std.specs.Int.{w64, from_le_bytes}
-use Rattle.std.proofs.lemmas.List.{append-nil, take_all, drop_all, drop_more, take_more_set, take-append-drop, length-take}
+use Rattle.std.proofs.lemmas.List.{append-nil, take-append-drop, length-take}
 use Rattle.std.proofs.Math.Seq.{take-append_seam, drop-append_seam}
 use Rattle.hex.specs.Hex.{hex_digit_value, decode_pairs, decode_of, pair_value, ◌>>=◌}
 use Rattle.hex.specs.declared.error.FromHexError.{FromHexError}
 use Rattle.hex.proofs.HexLemmas.{decode_of-even}
-use Rattle.std.proofs.lemmas.Bool.{and_parts, cases_lt, eqb-true}
 use Rattle.std.proofs.lemmas.Bool.Decides.{nat_tests}
 use Rattle.image_grammar.specs.Forms.{words_in, words_in_bytes, whole_words}
 use Rattle.image_reader.specs.Digits.{joined, byte_by, byte_in, bytes_in, word_in, words_told, AreWords}
 
--- THE TABLE
-
-abbrev pub values : List ℕ
-values = 255 ∷ 255 ∷ 255 ∷ 255 ∷ 255 ∷ 255 ∷ 255 ∷ 255 ∷ 255 ∷ 255 ∷ 255 ∷ 255 ∷ 255 ∷ 255 ∷ 255 ∷ 255 ∷ 255 ∷ 255 ∷ 255 ∷ 255 ∷ 255 ∷ 255 ∷ 255 ∷ 255 ∷ 255 ∷ 255 ∷ 255 ∷ 255 ∷ 255 ∷ 255 ∷ 255 ∷ 255 ∷ 255 ∷ 255 ∷ 255 ∷ 255 ∷ 255 ∷ 255 ∷ 255 ∷ 255 ∷ 255 ∷ 255 ∷ 255 ∷ 255 ∷ 255 ∷ 255 ∷ 255 ∷ 255 ∷ 0 ∷ 1 ∷ 2 ∷ 3 ∷ 4 ∷ 5 ∷ 6 ∷ 7 ∷ 8 ∷ 9 ∷ 255 ∷ 255 ∷ 255 ∷ 255 ∷ 255 ∷ 255 ∷ 255 ∷ 10 ∷ 11 ∷ 12 ∷ 13 ∷ 14 ∷ 15 ∷ 255 ∷ 255 ∷ 255 ∷ 255 ∷ 255 ∷ 255 ∷ 255 ∷ 255 ∷ 255 ∷ 255 ∷ 255 ∷ 255 ∷ 255 ∷ 255 ∷ 255 ∷ 255 ∷ 255 ∷ 255 ∷ 255 ∷ 255 ∷ 255 ∷ 255 ∷ 255 ∷ 255 ∷ 255 ∷ 255 ∷ 10 ∷ 11 ∷ 12 ∷ 13 ∷ 14 ∷ 15 ∷ 255 ∷ 255 ∷ 255 ∷ 255 ∷ 255 ∷ 255 ∷ 255 ∷ 255 ∷ 255 ∷ 255 ∷ 255 ∷ 255 ∷ 255 ∷ 255 ∷ 255 ∷ 255 ∷ 255 ∷ 255 ∷ 255 ∷ 255 ∷ 255 ∷ 255 ∷ 255 ∷ 255 ∷ 255 ∷ 255 ∷ 255 ∷ 255 ∷ 255 ∷ 255 ∷ 255 ∷ 255 ∷ 255 ∷ 255 ∷ 255 ∷ 255 ∷ 255 ∷ 255 ∷ 255 ∷ 255 ∷ 255 ∷ 255 ∷ 255 ∷ 255 ∷ 255 ∷ 255 ∷ 255 ∷ 255 ∷ 255 ∷ 255 ∷ 255 ∷ 255 ∷ 255 ∷ 255 ∷ 255 ∷ 255 ∷ 255 ∷ 255 ∷ 255 ∷ 255 ∷ 255 ∷ 255 ∷ 255 ∷ 255 ∷ 255 ∷ 255 ∷ 255 ∷ 255 ∷ 255 ∷ 255 ∷ 255 ∷ 255 ∷ 255 ∷ 255 ∷ 255 ∷ 255 ∷ 255 ∷ 255 ∷ 255 ∷ 255 ∷ 255 ∷ 255 ∷ 255 ∷ 255 ∷ 255 ∷ 255 ∷ 255 ∷ 255 ∷ 255 ∷ 255 ∷ 255 ∷ 255 ∷ 255 ∷ 255 ∷ 255 ∷ 255 ∷ 255 ∷ 255 ∷ 255 ∷ 255 ∷ 255 ∷ 255 ∷ 255 ∷ 255 ∷ 255 ∷ 255 ∷ 255 ∷ 255 ∷ 255 ∷ 255 ∷ 255 ∷ 255 ∷ 255 ∷ 255 ∷ 255 ∷ 255 ∷ 255 ∷ 255 ∷ 255 ∷ 255 ∷ 255 ∷ 255 ∷ 255 ∷ 255 ∷ 255 ∷ 255 ∷ 255 ∷ 255 ∷ 255 ∷ 255 ∷ 255 ∷ 255 ∷ 255 ∷ 255 ∷ 255 ∷ 255 ∷ 255 ∷ 255 ∷ 255 ∷ 255 ∷ 255 ∷ 255 ∷ 255 ∷ 255 ∷ 255 ∷ 255 ∷ 255 ∷ 255 ∷ 255 ∷ 255 ∷ 255 ∷ 255 ∷ 255 ∷ []
-
-abbrev value_or : Option ℕ → ℕ
-value_or (Some value) = value
-value_or None = 255
-
-abbrev is_value : ℕ → Bool
-is_value byte = get_or values byte 0 == value_or (hex_digit_value byte)
-
-abbrev are_values : ℕ → Bool
-are_values zero = true
-are_values (suc n) = is_value n && are_values n
-
-are_values_at : (n byte : ℕ) → are_values n ≡ true → byte < n → is_value byte ≡ true
-are_values_at zero byte all below = absurd (omega (arith, below))
-are_values_at (suc n) byte all below =
-    let parts = and_parts (is_value n) (are_values n) all in
-    elim (cases_lt byte n) [
-      | inl less ↦ are_values_at n byte parts.1 less
-      | inr top ↦
-          let same : byte ≡ n = omega (arith, below, top) in
-          rw same parts.0
-    ]
-
-all_values : are_values 256 ≡ true
-all_values = refl
-
-value_at : (byte : ℕ) → byte < 256 → get_or values byte 0 ≡ value_or (hex_digit_value byte)
-value_at byte within = eqb-true (get_or values byte 0) (value_or (hex_digit_value byte)) (are_values_at 256 byte all_values within)
-
-some_by : (o : Option ℕ) (value : ℕ) → value ≡ value_or o → value < 16 → Some value ≡ o
-some_by None value is small = absurd (omega (arith, is, small))
-some_by (Some x) value is small = ap Some is
-
-pub value_read : (byte : ℕ) → byte < 256 → get_or values byte 0 < 16 → Some (get_or values byte 0) ≡ hex_digit_value byte
-value_read byte within small = some_by (hex_digit_value byte) (get_or values byte 0) (value_at byte within) small
-
-small_by : (a b c : Bool) (byte : ℕ) → (nat_le 65 byte && nat_le byte 70) ≡ a → (nat_le 97 byte && nat_le byte 102) ≡ b → (nat_le 48 byte && nat_le byte 57) ≡ c
-    → value_or (hex_digit_value byte) < 16 ⊎ (hex_digit_value byte ≡ None)
-small_by true b c byte upper lower digit = inl (grind (arith, nat_tests, upper))
-small_by false true c byte upper lower digit = inl (grind (arith, nat_tests, upper, lower))
-small_by false false true byte upper lower digit = inl (grind (arith, nat_tests, upper, lower, digit))
-small_by false false false byte upper lower digit = inr (simp (upper, lower, digit))
-
-none_by : (byte value : ℕ) → value ≡ value_or (hex_digit_value byte) → 16 ≤ value → (value_or (hex_digit_value byte) < 16 ⊎ (hex_digit_value byte ≡ None)) → None ≡ hex_digit_value byte
-none_by byte value is big (inl small) = absurd (omega (arith, is, big, small))
-none_by byte value is big (inr none) = sym none
-
-pub value_refused : (byte : ℕ) → byte < 256 → 16 ≤ get_or values byte 0 → None ≡ hex_digit_value byte
-value_refused byte within big =
-    none_by byte (get_or values byte 0) (value_at byte within) big
-    (small_by (nat_le 65 byte && nat_le byte 70) (nat_le 97 byte && nat_le byte 102) (nat_le 48 byte && nat_le byte 57) byte refl refl refl)
-
--- A WORD
+-- WORDS BEFORE
 
 -- what was read before stands in front
 abbrev pub behind : List ℕ → Option (List ℕ) → Option (List ℕ)
@@ -79,46 +22,9 @@ pub behind_more : (front : List ℕ) (x : ℕ) (o : Option (List ℕ)) → behin
 behind_more front x None = refl
 behind_more front x (Some rest) = ap Some (sym (append_assoc front (x ∷ []) rest))
 
-pub behind_none : (front : List ℕ) (o : Option (List ℕ)) → behind front (joined None o) ≡ None
-behind_none front o = refl
-
 pub behind_nothing : (o : Option (List ℕ)) → o ≡ behind [] o
 behind_nothing None = refl
 behind_nothing (Some rest) = refl
-
-two_more : (digits : List ℕ) (i : ℕ) → 2 * i + 1 < length digits → drop (2 * i) digits ≡ get_or digits (2 * i) 0 ∷ get_or digits (2 * i + 1) 0 ∷ drop (2 * (i + 1)) digits
-two_more digits i within =
-    let a = drop_more digits (2 * i) 0 (omega (arith, within)) in
-    let b = drop_more digits (2 * i + 1) 0 within in
-    let two : 2 * i + 1 + 1 ≡ 2 * (i + 1) = omega arith in
-    a ∙ ap (λ (l : List ℕ). get_or digits (2 * i) 0 ∷ l) (b ∙ ap (λ (k : ℕ). get_or digits (2 * i + 1) 0 ∷ drop k digits) two)
-
-pair_told : (digits : List ℕ) (i : ℕ) → 2 * i + 1 < length digits
-    → bytes_in (drop (2 * i) digits) ≡ joined (byte_in (get_or digits (2 * i) 0) (get_or digits (2 * i + 1) 0)) (bytes_in (drop (2 * (i + 1)) digits))
-unfolding bytes_in
-pair_told digits i within = ap bytes_in (two_more digits i within)
-
--- one byte more
-pub byte_read : (digits bytes : List ℕ) (i byte : ℕ) → 2 * i + 1 < length digits → i < length bytes → byte_in (get_or digits (2 * i) 0) (get_or digits (2 * i + 1) 0) ≡ Some byte
-    → bytes_in digits ≡ behind (take i bytes) (bytes_in (drop (2 * i) digits))
-    → bytes_in digits ≡ behind (take (i + 1) (set bytes i byte)) (bytes_in (drop (2 * (i + 1)) digits))
-byte_read digits bytes i byte within room is so_far =
-    let rest : Option (List ℕ) = bytes_in (drop (2 * (i + 1)) digits) in
-    so_far ∙ ap (behind (take i bytes)) (pair_told digits i within ∙ ap (λ (o : Option ℕ). joined o rest) is)
-    ∙ behind_more (take i bytes) byte rest ∙ ap (λ (front : List ℕ). behind front rest) (sym (take_more_set bytes i byte room))
-
--- a byte that is none
-pub byte_refused : (digits bytes : List ℕ) (i : ℕ) → 2 * i + 1 < length digits → byte_in (get_or digits (2 * i) 0) (get_or digits (2 * i + 1) 0) ≡ None
-    → bytes_in digits ≡ behind (take i bytes) (bytes_in (drop (2 * i) digits))
-    → None ≡ bytes_in digits
-byte_refused digits bytes i within is so_far =
-    sym (so_far ∙ ap (behind (take i bytes)) (pair_told digits i within ∙ ap (λ (o : Option ℕ). joined o (bytes_in (drop (2 * (i + 1)) digits))) is))
-
--- all bytes
-pub bytes_read : (digits bytes : List ℕ) (i : ℕ) → length bytes ≤ i → length digits ≤ 2 * i → bytes_in digits ≡ behind (take i bytes) (bytes_in (drop (2 * i) digits)) → Some bytes ≡ bytes_in digits
-unfolding bytes_in
-bytes_read digits bytes i short end so_far =
-    sym (so_far ∙ ap (λ (l : List ℕ). behind (take i bytes) (bytes_in l)) (drop_all (2 * i) digits end) ∙ ap Some (append-nil (take i bytes) ∙ take_all i bytes short))
 
 -- ALL WORDS
 

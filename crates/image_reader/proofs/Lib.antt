@@ -4,3 +4,4 @@ pub mod SoFarLemmas
 pub mod SoundLemmas
 pub mod ReadLemmas
 pub mod DigitLemmas
+pub mod LaneLemmas

@@ -12,6 +12,7 @@ mod fill_line;
 mod head;
 mod host_line;
 mod item;
+mod lanes;
 mod lines;
 mod map_line;
 mod place;
