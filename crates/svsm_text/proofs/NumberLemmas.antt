@@ -4,7 +4,6 @@ use Rattle.std.specs.Prelude.{Some, codes, nat_le, ◌&&◌, false, if◌then◌
 use Rattle.std.specs.Fmt.{digits, digits_onto, digit_glyph}
 use Rattle.std.proofs.lemmas.Fmt.{digits_is_IsNumeral}
 use Rattle.svsm_text.specs.Numbers.{are_digits, number_in, number}
-use Rattle.std.proofs.Math.ListN.{drop_of_length-le}
 use Rattle.std.proofs.Math.Nat.{pow-le-pow_right, pow-le-pow_left, pow-suc}
 use Rattle.std.specs.Str.Parse.{AllDigits, digits_value}
 use Rattle.std.specs.Char.{digit_value, is_digit}

@@ -12,21 +12,21 @@ left_none (Some at) none = absurd (none at refl)
 
 pub fields-smaller : goal.fields-smaller
 fields-smaller c =
-    let is : c.memchr.result ≡ Some c.in-Some.at = c.in-Some.is in
+    let is : c.first_space.result ≡ Some c.in-Some.at = c.in-Some.is in
     let left : c.after_spaces-rest.result.now ≡ after_spaces (drop c.in-Some.at c.fields.rest.now) = c.after_spaces-rest.ensures ∙ ap after_spaces c.split_at.ensures.back in
-    subst (λ (l : List ℕ). length l < length c.fields.rest.now) (sym left) (smaller c.fields.rest.now c.in-Some.at (rw is at c.memchr.ensures))
+    subst (λ (l : List ℕ). length l < length c.fields.rest.now) (sym left) (smaller c.fields.rest.now c.in-Some.at (rw is at c.first_space.ensures))
 
 pub returns-then-count-eq-MOST-clause-fields : goal.returns-then-count-eq-MOST-clause-fields
 returns-then-count-eq-MOST-clause-fields c =
-    let is : c.memchr.result ≡ Some c.in-Some.at = c.in-Some.is in
+    let is : c.first_space.result ≡ Some c.in-Some.at = c.in-Some.is in
     let before = texts (take c.fields.count c.fields.found) in
     let size : length before ≡ c.fields.count = length-map (take c.fields.count c.fields.found) (λ (field : Bor (List ℕ)). field.now)
     ∙ omega (arith, length-take c.fields.count c.fields.found, c.fields.invariant.room, c.fields.invariant.few) in
-    omega (arith, many_fields before c.fields.rest.now c.in-Some.at c.fields.count size (rw is at c.memchr.ensures), ap length c.fields.invariant.read, c.if-count-eq-MOST.true)
+    omega (arith, many_fields before c.fields.rest.now c.in-Some.at c.fields.count size (rw is at c.first_space.ensures), ap length c.fields.invariant.read, c.if-count-eq-MOST.true)
 
 pub fields-preserved : goal.fields-preserved
 fields-preserved c =
-    let is : c.memchr.result ≡ Some c.in-Some.at = c.in-Some.is in
+    let is : c.first_space.result ≡ Some c.in-Some.at = c.in-Some.is in
     let before = texts (take c.fields.count c.fields.found) in
     let field : Bor (List ℕ) = c.split_at.result.0 in
     let left : c.after_spaces-rest.result.now ≡ after_spaces (drop c.in-Some.at c.fields.rest.now) = c.after_spaces-rest.ensures ∙ ap after_spaces c.split_at.ensures.back in
@@ -38,14 +38,14 @@ fields-preserved c =
       few = omega (arith, c.fields.invariant.few, c.if-count-eq-MOST.false);
       read = ap (λ fs. fs ++ fields c.after_spaces-rest.result.now) more
           ∙ ap (λ (l : List ℕ). (before ++ take c.in-Some.at c.fields.rest.now ∷ []) ++ fields l) left
-          ∙ sym (field_read before c.fields.rest.now c.in-Some.at (rw is at c.memchr.ensures)) ∙ c.fields.invariant.read;
+          ∙ sym (field_read before c.fields.rest.now c.in-Some.at (rw is at c.first_space.ensures)) ∙ c.fields.invariant.read;
     }
 
 pub returns : goal.returns
 returns c =
-    let is : c.memchr.result ≡ None = left_none c.memchr.result c.in_default.not-Some in
+    let is : c.first_space.result ≡ None = left_none c.first_space.result c.in_default.not-Some in
     record {
       fields = one_more c.fields.found c.fields.count c.fields.rest (omega (arith, c.fields.invariant.room, c.fields.invariant.few))
-          ∙ sym (last_read (texts (take c.fields.count c.fields.found)) c.fields.rest.now (rw is at c.memchr.ensures)) ∙ c.fields.invariant.read;
+          ∙ sym (last_read (texts (take c.fields.count c.fields.found)) c.fields.rest.now (rw is at c.first_space.ensures)) ∙ c.fields.invariant.read;
       most = c.fields.invariant.few;
     }
