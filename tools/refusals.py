@@ -38,7 +38,8 @@ BOOT = {
 }
 REQUESTS_SENT = {0x002: 'Info (versions)', 0x012: 'Register (the GHCB page)', 0x014: 'Change (the GHCB page to shared)', 0x080: 'Features'}
 WORDS = {
-    'words': 'the words are of none of the forms that README.md has, as: svsm_run run IMAGE SCRIPT.. [--brief]',
+    'words': 'the words are none of: run IMAGE SCRIPT.. [--brief], with 1 to 64 scripts; save IMAGE SCRIPT..; gen CORES REQUESTS NUMBER, of 1 to 16, '
+             '1 to 128 and below 2^64',
     'memory': 'memory ran out: use a smaller image, fewer requests, or a machine with more',
     'write': 'a write to standard output failed: what was written is the front of the report',
 }
@@ -66,6 +67,9 @@ def of_image(fields, text):
     return f'{head}\n  cause: {kind}: {own}\n  in general: {cause}\n  what to do: {remedy}'
 
 
+OTHER = ', which is right: is it the script that was run?'
+
+
 def cause_in(kind, data, at):
     """The cause in a script's record, where it is known."""
     words = [int.from_bytes(data[48 * at + 8 * k:48 * at + 8 * k + 8], 'little') for k in range(6)] if 48 * at + 48 <= len(data) else None
@@ -76,12 +80,12 @@ def cause_in(kind, data, at):
     if words is None:
         return ''
     if kind == 'kind':
-        return f'its kind is {words[0] & 0xff}'
+        return f'its kind is {words[0] & 0xff}' + (OTHER if 1 <= words[0] & 0xff <= 7 else '')
     if kind == 'vmpl':
-        return f'its VMPL is {words[3] & 0xff}'
+        return f'its VMPL is {words[3] & 0xff}' + (OTHER if 1 <= words[3] & 0xff <= 3 else '')
     if kind == 'align':
         unit = 8 if words[0] & 0xff in (1, 4) else PAGE_BYTES
-        return f'its address is {words[1]:#x}, which is {words[1] % unit:#x} past a multiple of {unit}'
+        return f'its address is {words[1]:#x}, which is {words[1] % unit:#x} past a multiple of {unit}' + ('' if words[1] % unit else OTHER)
     return ''
 
 
@@ -106,20 +110,22 @@ def of_boot(fields):
     return f"the image does not boot\n  cause: {fields[1]}: {cause}\n  what to do: look at the image's host, accept and fault lines"
 
 
-# by the word behind `save`: what the values are, and why the last state is no image
+# by the word behind `save`: how many values there are, why the last state is no image, and what to do
 SAVE = {
-    'core': (1, 'core {0} ended by a fault of the platform or a wrong answer of the host'),
-    'page': (1, 'page {0} is recorded and not valid, or valid and not recorded, or it is the GHCB page and assigned: no range line says so'),
-    'host': (2, 'the host refused an announcement, with EXITINFO1 {0} and EXITINFO2 {1}'),
-    'long': (0, f'its image would have more than {FILE_BYTES:,} bytes'),
+    'core': (1, 'core {0} ended by a fault of the platform or a wrong answer of the host', 'look at the report of the same run'),
+    'page': (1, 'page {0} is recorded and not valid, or valid and not recorded, or it is the GHCB page and assigned: no range line says so',
+             'leave out what the host did to it: share and assign'),
+    'host': (2, 'the host refused an announcement, with EXITINFO1 {0} and EXITINFO2 {1}', "take the image's 'host ap' line out"),
+    'long': (0, f'its image would have more than {FILE_BYTES:,} bytes', 'write fewer words in the image and the scripts'),
 }
 
 
 def of_save(fields):
-    many, form = SAVE.get(fields[1], (-1, ''))
+    many, form, remedy = SAVE.get(fields[1], (-1, '', ''))
     if len(fields) != many + 2:
         raise Told("of 'save' no such line is written")
-    return 'the last state is not saved\n  cause: ' + form.format(*(said(number(fields, at)) for at in range(2, len(fields))))
+    cause = form.format(*(said(number(fields, at)) for at in range(2, len(fields))))
+    return f'the last state is not saved\n  cause: {fields[1]}: {cause}\n  what to do: {remedy}'
 
 
 def number(fields, at):
@@ -139,7 +145,7 @@ def explained(told, image, scripts):
         return WORDS[fields[0]]
     if fields[0] == 'read' and len(fields) == 2:
         at = number(fields, 1)
-        return f"the load of {'the image' if at == 0 else f'the script of core {at - 1}'} failed: is there such a file, and may it be read?"
+        return f"the load of {'the image' if at == 0 else f'the script of core {at - 1}'} failed: is there such a file, may it be read, and is it no folder?"
     if fields[0] == 'image' and len(fields) == 4 and fields[1] == 'line':
         return of_image(fields[1:], image)
     if fields[0] == 'script' and len(fields) == 5 and fields[2] == 'at':
