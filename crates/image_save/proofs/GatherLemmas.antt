@@ -11,7 +11,7 @@ use Rattle.svsm_types.specs.declared.owner.RmpRow.{RmpRow}
 use Rattle.svsm_types.specs.declared.vcpu.Row.{Row}
 use Rattle.svsm_steps.specs.Mapped.{AreRows}
 use Rattle.svsm_steps.specs.State.{State, row_at, rmp_rows}
-use Rattle.image_text.specs.Refused.{is_unsaved, first_page}
+use Rattle.image_text.specs.Refused.{is_unsaved, first_unsaved_page}
 use Rattle.image_text.specs.Saved.{is_idle, seat_of, saved_core}
 use Rattle.image_text.specs.Written.{has_address, is_addressed}
 use Rattle.image_save.specs.Gathered.{is_unsaid, first_unsaid}
@@ -105,7 +105,7 @@ unsaid_from image state first (suc count) =
     (first_unsaid image.ghcb.0 (first + 1) (map (λ page. row_at page state) (range_with_len (first + 1) count)))
     (find (is_unsaved image state) (range_with_len (first + 1) count)) (unsaid_from image state (first + 1) count)
 
-pub unsaid_is : (image : Image) (state : State) → first_unsaid image.ghcb.0 0 (rmp_rows image.regions state) ≡ as_page (first_page image state)
+pub unsaid_is : (image : Image) (state : State) → first_unsaid image.ghcb.0 0 (rmp_rows image.regions state) ≡ as_page (first_unsaved_page image state)
 unsaid_is image state = unsaid_from image state 0 (512 * image.regions)
 
 -- seats have addresses

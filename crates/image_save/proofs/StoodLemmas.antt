@@ -1,5 +1,5 @@
 -- Places that were made as a state stand as it.
-use Rattle.std.proofs.Common.{◌≡◌, ℕ, zero, suc, ◌+◌, ◌*◌, ◌/◌, ◌<◌, ◌≤◌, Bool, Option, List, [], ◌∷◌, length, refl, sym, ap, ◌∙◌, arith}
+use Rattle.std.proofs.Common.{◌≡◌, ℕ, zero, suc, ◌+◌, ◌*◌, ◌/◌, ◌^◌, ◌<◌, ◌≤◌, Bool, Option, List, [], ◌∷◌, length, refl, sym, ap, subst, ◌∙◌, arith}
 use Rattle.std.specs.Prelude.{map, filter, if◌then◌else◌}
 use Rattle.std.specs.List.{range_with_len}
 use Rattle.std.proofs.lemmas.List.{get_or-map}
@@ -15,7 +15,8 @@ use Rattle.svsm_steps.specs.State.{State, Block, RegionState, row_at, rmp_rows, 
 use Rattle.svsm_laws.proofs.Places.{place_in-value}
 use Rattle.place_core.specs.Kinds.{value_of}
 use Rattle.place_core.specs.PlaceView.{PlaceView}
-use Rattle.image_text.specs.Refused.{first_core, first_page, by_core, save_told}
+use Rattle.image_text.specs.Fits.{FitsIn64Bits}
+use Rattle.image_text.specs.Refused.{first_core, first_unsaved_page, by_core, save_told}
 use Rattle.image_text.specs.Saved.{saved, saved_core, saved_block, saved_ranges, saved_large, saved_fills, ranges_from, fills_from}
 use Rattle.image_text.specs.Collected.{rows_saying}
 use Rattle.image_text.specs.Written.{image_text}
@@ -78,16 +79,24 @@ saved_alike image one other alike =
     (map saved_block one.pool) (map saved_block other.pool)
     ranges large (ap (λ (l : List Row). map (saved_core l) image.cores) alike.rows) fills (ap (λ (l : List Block). map saved_block l) alike.pool)
 
-page_alike : (image : Image) (one other : State) → Alike image one other → first_page image one ≡ first_page image other
+page_alike : (image : Image) (one other : State) → Alike image one other → first_unsaved_page image one ≡ first_unsaved_page image other
 page_alike image one other alike =
-    as_page_one (first_page image one) (first_page image other)
+    as_page_one (first_unsaved_page image one) (first_unsaved_page image other)
     (sym (unsaid_is image one) ∙ ap (first_unsaid image.ghcb.0 0) (rows_alike image one other alike) ∙ unsaid_is image other)
 
 told_alike : (image : Image) (one other : State) (cores : List CoreRun) (refused : Option (ℕ × ℕ)) → Alike image one other
     → save_told image cores refused one ≡ save_told image cores refused other
 told_alike image one other cores refused alike =
     ap (λ (page : Option ℕ). by_core (first_core cores) refused page (image_text (saved image one))) (page_alike image one other alike)
-    ∙ ap (λ (now : Image). by_core (first_core cores) refused (first_page image other) (image_text now)) (saved_alike image one other alike)
+    ∙ ap (λ (now : Image). by_core (first_core cores) refused (first_unsaved_page image other) (image_text now)) (saved_alike image one other alike)
+
+fits_alike : (image : Image) (one other : State) → Alike image one other → FitsIn64Bits image one → FitsIn64Bits image other
+fits_alike image one other alike fits = record {
+  features = fits.features;
+  words = λ number low.
+      let within : region_of (page_of (8 * number)) < image.regions = omega (arith, low) in
+      subst (λ (r : RegionState). r.hw.words (8 * number) < 2 ^ 64) (alike.regions (region_of (page_of (8 * number))) within) (fits.words number low);
+}
 
 first_of : (places : List PlaceView) → 0 < length places → PlaceView
 first_of [] h = absurd (omega (arith, h))
@@ -142,4 +151,5 @@ made_places_stand image state places made =
       pool = alike.pool;
       rows = alike.rows;
       told = λ cores refused. told_alike image (standing image.regions places) state cores refused alike;
+      fits = fits_alike image (standing image.regions places) state alike;
     }

@@ -1,19 +1,20 @@
 -- Words, one page after another.
-use Rattle.std.proofs.Common.{◌≡◌, ◌≢◌, ℕ, zero, suc, ◌+◌, ◌*◌, ◌<◌, ◌≤◌, Bool, List, [], ◌∷◌, ◌++◌, length, refl, sym, ap, ◌∙◌, subst, arith}
+use Rattle.std.proofs.Common.{◌≡◌, ◌≢◌, ℕ, zero, suc, ◌+◌, ◌*◌, ◌-◌, ◌^◌, ◌<◌, ◌≤◌, ⊎_elim, Bool, List, [], ◌∷◌, ◌++◌, length, refl, sym, ap, ◌∙◌, subst, arith}
 use Rattle.std.specs.Prelude.{if◌then◌else◌, map}
 use Rattle.std.specs.List.{range_with_len}
 use Rattle.std.proofs.lemmas.List.FromFn.{map-range_with_len_more, length-map-range_with_len}
 use Rattle.std.proofs.lemmas.List.{map-append}
 use Rattle.svsm_types.specs.declared.image.Fill.{Fill}
 use Rattle.svsm_types.specs.declared.image.Image.{Image}
+use Rattle.image_text.specs.Fits.{FitBeforePage}
 use Rattle.image_text.specs.Saved.{saved_fills}
-use Rattle.std.proofs.lemmas.Bool.{eq-eqb, ne_eqb}
+use Rattle.std.proofs.lemmas.Bool.{eq-eqb, ne_eqb, cases_lt}
 use Rattle.svsm_types.specs.Pages.{page_of, region_of}
 use Rattle.platform_trait.specs.WordsOf.{IsBlank}
 use Rattle.svsm_steps.specs.State.{State, word_at}
 use Rattle.image_text.specs.Collected.{word_if, word_put, words_put, EndBy}
 use Rattle.image_text.proofs.FillMoreLemmas.{words_put_both, zeros_put, end_words, end_word, fills_are_put}
-use Rattle.image_save.specs.Gathered.{page_words}
+use Rattle.image_save.specs.Gathered.{page_words, PageFits}
 
 -- one word more
 
@@ -105,3 +106,34 @@ pub all_pages : (image : Image) (state : State) (now : List Fill) (page : ℕ) �
 all_pages image state now page all is =
     is ∙ ap (λ (n : ℕ). words_put [] 0 (map (λ number. word_at (8 * number) state) (range_with_len 0 (512 * n)))) all
     ∙ sym (fills_are_put (map (λ number. word_at (8 * number) state) (range_with_len 0 (512 * (512 * image.regions)))))
+
+-- words of 64 bits
+
+pub blank_fits : (page : ℕ) (words : ℕ → ℕ) → IsBlank page words → PageFits page words
+blank_fits page words blank column low =
+    let none : words (8 * (512 * page + column)) ≡ 0 = blank (8 * (512 * page + column)) (omega (arith, low)) in omega (arith, none)
+
+pub column_more : (first count word : ℕ) (words : ℕ → ℕ) → ((column : ℕ) → column < count → words (8 * (first + column)) < 2 ^ 64)
+    → word ≡ words (8 * (first + count)) → word < 2 ^ 64 → (column : ℕ) → column < count + 1 → words (8 * (first + column)) < 2 ^ 64
+column_more first count word words before is fits column low =
+    ⊎_elim (before column)
+    (λ (high : count ≤ column).
+    let last : count ≡ column = omega (arith, low, high) in
+    subst (λ (n : ℕ). words (8 * (first + n)) < 2 ^ 64) last (subst (λ (n : ℕ). n < 2 ^ 64) is fits))
+    (cases_lt column count)
+
+pub fit_more : (state : State) (page : ℕ) (words : ℕ → ℕ) → FitBeforePage page state → words ≡ (state.regions (region_of page)).hw.words
+    → PageFits page words → FitBeforePage (page + 1) state
+fit_more state page words before is fits number low =
+    ⊎_elim (before number)
+    (λ (high : 512 * page ≤ number).
+    let column : number - 512 * page < 512 = omega (arith, low, high) in
+    let at : region_of (page_of (8 * number)) ≡ region_of page = omega (arith, low, high) in
+    let same : 512 * page + (number - 512 * page) ≡ number = omega (arith, high) in
+    let word : words (8 * number) ≡ word_at (8 * number) state =
+    ap (λ (w : ℕ → ℕ). w (8 * number)) is ∙ ap (λ (r : ℕ). (state.regions r).hw.words (8 * number)) (sym at) in
+    subst (λ (n : ℕ). n < 2 ^ 64) (ap (λ (n : ℕ). words (8 * n)) same ∙ word) (fits (number - 512 * page) column))
+    (cases_lt number (512 * page))
+
+pub all_fit : (state : State) (page pages : ℕ) → page ≡ pages → FitBeforePage page state → FitBeforePage pages state
+all_fit state page pages all fits = subst (λ (n : ℕ). FitBeforePage n state) all fits

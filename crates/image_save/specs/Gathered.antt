@@ -1,5 +1,5 @@
 -- What is gathered of the places and cores.
-use Rattle.std.specs.Prelude.{ℕ, ◌+◌, ◌*◌, ◌==◌, Bool, ◌&&◌, ◌||◌, not, if◌then◌else◌, Option, None, Some, List, [], ◌∷◌, map}
+use Rattle.std.specs.Prelude.{ℕ, ◌+◌, ◌*◌, ◌^◌, ◌<◌, ◌==◌, Bool, ◌&&◌, ◌||◌, not, if◌then◌else◌, Option, None, Some, List, [], ◌∷◌, map}
 use Rattle.std.specs.List.{range_with_len}
 use Rattle.svsm_types.specs.Hardware.{same_truth}
 use Rattle.svsm_types.specs.declared.address.Page.{Page}
@@ -9,6 +9,10 @@ use Rattle.svsm_steps.specs.declared.outcome.CoreRun.{CoreRun}
 -- the words of a page, in their order
 unfoldable pub page_words : ℕ → (ℕ → ℕ) → List ℕ
 page_words page words = map (λ number. words (8 * number)) (range_with_len (512 * page) 512)
+
+-- each word of a page has 64 bits
+abbrev pub PageFits : ℕ → (ℕ → ℕ) → Type 0
+PageFits page words = (column : ℕ) → column < 512 → words (8 * (512 * page + column)) < 2 ^ 64
 
 -- no image can say the page with this row
 abbrev pub is_unsaid : ℕ → ℕ → RmpRow → Bool

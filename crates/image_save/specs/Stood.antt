@@ -9,6 +9,7 @@ use Rattle.place_core.specs.declared.kind.Kind.{Kind}
 use Rattle.place_core.specs.Kinds.{value_of}
 use Rattle.place_core.specs.PlaceView.{PlaceView}
 use Rattle.place_core.specs.Turned.{EachPlace, IsFresh, openings_of}
+use Rattle.image_text.specs.Fits.{FitsIn64Bits}
 use Rattle.image_text.specs.Refused.{save_told}
 use Rattle.image_save.specs.Standing.{standing, AreStanding}
 
@@ -28,6 +29,7 @@ pub record StandAs (image : Image) (state : State) (places : List PlaceView) : T
   pub rows : (standing image.regions places).rows ≡ state.rows
   pub told : (cores : List CoreRun) (refused : Option (ℕ × ℕ))
       → save_told image cores refused (standing image.regions places) ≡ save_told image cores refused state
+  pub fits : FitsIn64Bits image (standing image.regions places) → FitsIn64Bits image state
 
 abbrev pub MadePlacesStand : Type 0
 MadePlacesStand = (image : Image) (state : State) (places : List PlaceView) → AreMadeAs image state places → StandAs image state places

@@ -1,9 +1,10 @@
 //! The text that is saved, or why none is.
-ghost use Rattle.std.specs.Prelude.{◌≡◌, ◌⊎◌, ◌*◌, IsTrue, IfOk, Ok, Err, MatchResult};
+ghost use Rattle.std.specs.Prelude.{◌≡◌, ◌⊎◌, ◌*◌, ◌^◌, ◌<◌, IsTrue, IfOk, OnOk, Ok, Err, MatchResult};
 ghost use Rattle.std.specs.List.{list_all};
 ghost use Rattle.svsm_steps.specs.Mapped.{AreRows};
 ghost use Rattle.svsm_steps.specs.State.{rmp_rows};
 ghost use Rattle.image_text.specs.Collected.{has_four_bits};
+ghost use Rattle.image_text.specs.Fits.{FitsIn64Bits};
 ghost use Rattle.image_text.specs.Refused.{save_told};
 ghost use Rattle.image_text.specs.Saved.{saved};
 ghost use Rattle.image_save.specs.Standing.{standing, AreStanding};
@@ -20,6 +21,11 @@ use svsm_types::{Image, NoMemory, RmpRow, Sequence};
 
 const LONGEST: usize = 16_777_216;
 
+// What the contracts of its caller do not know of a number of the code.
+fn has_64_bits(_value: u64)
+    ensures { _value < 2 ^ 64 }
+{}
+
 // The image of the state.
 fn saved_image(
     alloc: Global,
@@ -30,8 +36,10 @@ fn saved_image(
     requires stand { AreStanding image.now.regions places.now }
     requires bits { IsTrue (list_all has_four_bits rows.now) }
     requires rows { rows.now ≡ rmp_rows image.now.regions (standing image.now.regions places.now) }
-    ensures { IfOk result (λ now. now ≡ saved image.now (standing image.now.regions places.now)) }
+    ensures saved { IfOk result (λ now. now ≡ saved image.now (standing image.now.regions places.now)) }
+    ensures fits { OnOk result (FitsIn64Bits image.now (standing image.now.regions places.now)) }
 {
+    has_64_bits(image.features);
     let vcpus = rows_at(places, image.regions as usize + 1);
     let ranges = ranges_of(alloc, image.ghcb, rows)?;
     let large = large_regions(alloc, image, places)?;
@@ -69,10 +77,11 @@ pub fn save(
     requires stand { AreStanding image.now.regions places.now }
     requires bits { IsTrue (list_all has_four_bits (rmp_rows image.now.regions (standing image.now.regions places.now))) }
     requires rows { AreRows image.now.regions (standing image.now.regions places.now).rows }
-    ensures { MatchResult result
+    ensures told { MatchResult result
         (λ text. save_told image.now cores.now refused (standing image.now.regions places.now) ≡ Ok text.items)
         (λ error. (error ≡ SaveError.NoMemory)
         ⊎ (save_told image.now cores.now refused (standing image.now.regions places.now) ≡ Err error)) }
+    ensures fits { OnOk result (FitsIn64Bits image.now (standing image.now.regions places.now)) }
 {
     if let Some(core) = first_core(cores) {
         return Err(SaveError::Core { core });

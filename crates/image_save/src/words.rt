@@ -5,7 +5,8 @@ ghost use Rattle.rmp_table.specs.PackedKnown.{packed_known};
 ghost use Rattle.image_text.specs.Saved.{saved_fills};
 ghost use Rattle.image_text.specs.Collected.{words_put, EndBy};
 ghost use Rattle.image_save.specs.Standing.{standing, AreStanding};
-ghost use Rattle.image_save.specs.Gathered.{page_words};
+ghost use Rattle.image_text.specs.Fits.{FitBeforePage};
+ghost use Rattle.image_save.specs.Gathered.{page_words, PageFits};
 
 use crate::places::region_at;
 use image_text::put_filled;
@@ -24,8 +25,9 @@ fn put_page_words(
     requires here { region_of page.0 ≡ (packed_known region.now.scene).region }
     requires few { page.0 < 2 ^ 18 }
     requires ends { EndBy (512 * page.0) fills.old.items }
-    ensures { OnOk result (fills.new.items ≡ words_put fills.old.items (512 * page.0)
+    ensures put { OnOk result (fills.new.items ≡ words_put fills.old.items (512 * page.0)
         (page_words page.0 (packed_known region.now.scene).hw.words)) }
+    ensures fit { OnOk result (PageFits page.0 (packed_known region.now.scene).hw.words) }
 {
     if !region.touched(page) {
         return Ok(());
@@ -47,7 +49,8 @@ pub(crate) fn page_fills(
     places: &[Place],
 ) -> Result<Vec<Fill>, NoMemory>
     requires { AreStanding image.now.regions places.now }
-    ensures { IfOk result (λ fills. fills.items ≡ saved_fills image.now (standing image.now.regions places.now)) }
+    ensures fills { IfOk result (λ fills. fills.items ≡ saved_fills image.now (standing image.now.regions places.now)) }
+    ensures fit { OnOk result (FitBeforePage (512 * image.now.regions) (standing image.now.regions places.now)) }
 {
     let mut fills = Vec::new(alloc);
     'pages: for page in 0..512 * image.regions {

@@ -14,7 +14,7 @@ use Rattle.svsm_text.specs.Numbers.{number}
 use Rattle.svsm_steps.specs.Formed.{IsVmpl}
 use Rattle.svsm_steps.specs.Sound.{IsSound, IsSecond, is_sound_block}
 use Rattle.image_grammar.specs.Image.{image_of, is_vmpl}
-use Rattle.image_text.specs.Written.{Fields, image_text, title_line, vmpl_line, head_lines, only_if, item_lines, range_line, large_line, core_line, block_line, fill_line}
+use Rattle.image_text.specs.Written.{Fields, image_text, title_fields, vmpl_fields, head_lines, only_if, item_lines, range_fields, large_fields, core_fields, block_fields, fill_fields}
 use Rattle.image_text.specs.ReadsAgain.{IsWritable, ReadsAgain}
 use Rattle.image_text.proofs.TextLemmas.{IsField, AreFields, AreLines, lines_append}
 use Rattle.image_text.proofs.FieldLemmas.{number_field}
@@ -54,11 +54,11 @@ regions_fit n low high = grind (arith, nat_tests)
 ghcb_fit : (page most : ℕ) → page ≤ most → (nat_le 0 page && nat_le page most) ≡ true
 ghcb_fit page most h = grind (arith, nat_tests)
 
-title_are : (second : Option Vmpl) → AreFields (title_line second)
+title_are : (second : Option Vmpl) → AreFields (title_fields second)
 title_are None = ((refl, (refl, (refl, (refl, (refl, (refl, (refl, (refl, (refl, (refl, tt)))))))))), ((refl, tt), tt))
 title_are (Some second) = ((refl, (refl, (refl, (refl, (refl, (refl, (refl, (refl, (refl, (refl, tt)))))))))), ((refl, tt), tt))
 
-vmpl_are : (first : Vmpl) (second : Option Vmpl) → AreSmall first second → AreFields (vmpl_line first second)
+vmpl_are : (first : Vmpl) (second : Option Vmpl) → AreSmall first second → AreFields (vmpl_fields first second)
 vmpl_are first None small = ((refl, (refl, (refl, (refl, tt)))), (number_field first.0 small, tt))
 vmpl_are first (Some second) small = ((refl, (refl, (refl, (refl, tt)))), (number_field first.0 small.0, (number_field second.0 small.1, tt)))
 
@@ -96,10 +96,10 @@ item_lines_are : (image : Image) → IsWritable image → AreLines (item_lines i
 item_lines_are image w =
     let s = w.sound in
     let small = levels_small image.vmpl image.second s.vmpl s.second in
-    lines_append (map range_line image.ranges) _ (range_lines_are image.regions image.ranges s.regions_most s.ranges)
-    (lines_append (map large_line image.large) _ (large_lines_are image.regions image.large s.regions_most s.large)
-    (lines_append (map (core_line image.second) image.cores) _ (core_lines_are image.regions image.vmpl image.second image.cores s.regions_most small s.cores s.levels)
-    (lines_append (map block_line image.blocks) _ (block_lines_are image.regions image.blocks s.regions_most (blocks_in_map image image.blocks s.blocks))
+    lines_append (map range_fields image.ranges) _ (range_lines_are image.regions image.ranges s.regions_most s.ranges)
+    (lines_append (map large_fields image.large) _ (large_lines_are image.regions image.large s.regions_most s.large)
+    (lines_append (map (core_fields image.second) image.cores) _ (core_lines_are image.regions image.vmpl image.second image.cores s.regions_most small s.cores s.levels)
+    (lines_append (map block_fields image.blocks) _ (block_lines_are image.regions image.blocks s.regions_most (blocks_in_map image image.blocks s.blocks))
     (lines_append (only_if image.split (codes "pool" ∷ codes "split" ∷ [])) _
     (only_are image.split (codes "pool" ∷ codes "split" ∷ []) ((refl, (refl, (refl, (refl, tt)))), ((refl, (refl, (refl, (refl, (refl, tt))))), tt)))
     (lines_append (only_if image.announce (codes "announce" ∷ [])) _

@@ -23,7 +23,7 @@ use Rattle.svsm_text.specs.Numbers.{number, number_in}
 use Rattle.svsm_text.proofs.NumberLemmas.{read_again}
 use Rattle.image_grammar.specs.Words.{owner_word, state_word}
 use Rattle.image_text.specs.Written.{owner_field, state_field, words_field}
-use Rattle.image_text.specs.ReadsAgain.{AreWords}
+use Rattle.image_text.specs.ReadsAgain.{AreOf64Bits}
 use Rattle.image_text.proofs.TextLemmas.{IsPlain, IsField, plain_append}
 
 -- WORDS
@@ -103,7 +103,7 @@ words_none : (bytes : List ℕ) → words_in 0 bytes ≡ []
 unfolding words_in
 words_none bytes = refl
 
-words_in_again : (words : List ℕ) → AreWords words → words_in (length words) (bytes_of words) ≡ words
+words_in_again : (words : List ℕ) → AreOf64Bits words → words_in (length words) (bytes_of words) ≡ words
 words_in_again [] h = words_none []
 words_in_again (word ∷ words) h =
     words_step (length words) (bytes_of (word ∷ words))
@@ -112,7 +112,7 @@ words_in_again (word ∷ words) h =
     ∙ ap (λ (n : ℕ). n ∷ words_in (length words) (bytes_of words)) (from_le_bytes-to_le_bytes_8 word h.0)
     ∙ ap (λ (l : List ℕ). word ∷ l) (words_in_again words h.1)
 
-pub words_again : (words : List ℕ) → AreWords words → words_in_bytes (bytes_of words) ≡ words
+pub words_again : (words : List ℕ) → AreOf64Bits words → words_in_bytes (bytes_of words) ≡ words
 unfolding words_in_bytes
 words_again words h =
     let e : length (bytes_of words) / 8 ≡ length words = omega (arith, bytes_length words) in

@@ -26,8 +26,8 @@ use Rattle.image_grammar.specs.declared.item.Item.TheVariants as items
 use Rattle.image_grammar.specs.Told.{◌>>=◌, told, holds}
 use Rattle.image_grammar.specs.Forms.{is_run, range_in, large_line as read_large, is_seat, level_of, level_in, parked_in, seated_in, words_in_bytes, whole_words, fill_in, block_line as read_block, size_of, item_line}
 use Rattle.image_grammar.specs.Words.{owner_word, state_word}
-use Rattle.image_text.specs.Written.{owner_field, state_field, size_field, words_field, range_line, large_line, core_line, block_line, fill_line}
-use Rattle.image_text.specs.ReadsAgain.{AreWords}
+use Rattle.image_text.specs.Written.{owner_field, state_field, size_field, words_field, range_fields, large_fields, core_fields, block_fields, fill_fields}
+use Rattle.image_text.specs.ReadsAgain.{AreOf64Bits}
 use Rattle.image_text.proofs.FieldLemmas.{owner_again, state_again, bytes_of, bytes_length, whole_again, words_again}
 
 -- a value that was told, and a test that holds
@@ -42,14 +42,14 @@ holds_true kind false next e = cc
 -- range
 pub range_again : (image : Image) (range : Range) → range.first.0 < 2 ^ 64 → range.count < 2 ^ 64 → range.rights < 2 ^ 64
     → (is_run image.regions range.first.0 range.count && nat_le range.rights 0xfff) ≡ true
-    → item_line image (range_line range) ≡ Ok (items.Range range)
+    → item_line image (range_fields range) ≡ Ok (items.Range range)
 range_again image range f c r within =
     let first = read_again range.first.0 f in
     let count = read_again range.count c in
     let rights = read_again range.rights r in
     rw (owner_again range.owner, state_again range.state, first, count, rights, within) refl
 
-pub large_again : (image : Image) (region : ℕ) → region < 2 ^ 64 → nat_lt region image.regions ≡ true → item_line image (large_line region) ≡ Ok (items.Large region)
+pub large_again : (image : Image) (region : ℕ) → region < 2 ^ 64 → nat_lt region image.regions ≡ true → item_line image (large_fields region) ≡ Ok (items.Large region)
 large_again image region small within =
     let number = read_again region small in
     rw (number, within) refl
@@ -65,14 +65,14 @@ both_parts true b is = (refl, is)
 both_parts false b is = absurd cc
 
 pub parked_one : (image : Image) (apic : ℕ) (vmpl : Vmpl) → image.second ≡ None → apic < 2 ^ 64 → vmpl.0 ≡ image.vmpl.0 → (nat_lt apic (2 ^ 32) && in_levels image.vmpl None image.vmpl.0) ≡ true
-    → item_line image (core_line None (record { apic = apic; seat = None; vmpl = vmpl })) ≡ Ok (items.Core (record { apic = apic; seat = None; vmpl = vmpl }))
+    → item_line image (core_fields None (record { apic = apic; seat = None; vmpl = vmpl })) ≡ Ok (items.Core (record { apic = apic; seat = None; vmpl = vmpl }))
 parked_one image apic vmpl one small same within =
     let number = read_again apic small in
     let parts = both_parts (nat_lt apic (2 ^ 32)) (in_levels image.vmpl None image.vmpl.0) within in
     rw (one, number, parts.0, parts.1) (ap (λ (level : ℕ). Ok (items.Core (record { apic = apic; seat = None; vmpl = record { 0 = level } }))) (sym same))
 
 pub parked_two : (image : Image) (apic : ℕ) (vmpl second : Vmpl) → image.second ≡ Some second → apic < 2 ^ 64 → vmpl.0 < 2 ^ 64 → (nat_lt apic (2 ^ 32) && in_levels image.vmpl (Some second) vmpl.0) ≡ true
-    → item_line image (core_line (Some second) (record { apic = apic; seat = None; vmpl = vmpl })) ≡ Ok (items.Core (record { apic = apic; seat = None; vmpl = vmpl }))
+    → item_line image (core_fields (Some second) (record { apic = apic; seat = None; vmpl = vmpl })) ≡ Ok (items.Core (record { apic = apic; seat = None; vmpl = vmpl }))
 parked_two image apic vmpl second two small level within =
     let number = read_again apic small in
     let of_level = read_again vmpl.0 level in
@@ -89,7 +89,7 @@ seat_again apic page area level vmpl same =
 
 pub seated_one : (image : Image) (apic : ℕ) (page : Page) (area : Gpa) (vmpl : Vmpl) → image.second ≡ None → apic < 2 ^ 64 → 4096 * page.0 < 2 ^ 64 → area.0 < 2 ^ 64 → image.vmpl.0 ≡ vmpl.0
     → ((nat_lt apic (2 ^ 32) && in_levels image.vmpl None image.vmpl.0) && is_seat image.regions (4096 * page.0) area.0) ≡ true
-    → item_line image (core_line None (record { apic = apic; seat = Some (page, area); vmpl = vmpl })) ≡ Ok (items.Core (record { apic = apic; seat = Some (page, area); vmpl = vmpl }))
+    → item_line image (core_fields None (record { apic = apic; seat = Some (page, area); vmpl = vmpl })) ≡ Ok (items.Core (record { apic = apic; seat = Some (page, area); vmpl = vmpl }))
 seated_one image apic page area vmpl one small p a same within =
     let number = read_again apic small in
     let of_page = read_again (4096 * page.0) p in
@@ -101,7 +101,7 @@ seated_one image apic page area vmpl one small p a same within =
 
 pub seated_two : (image : Image) (apic : ℕ) (page : Page) (area : Gpa) (vmpl second : Vmpl) → image.second ≡ Some second → apic < 2 ^ 64 → 4096 * page.0 < 2 ^ 64 → area.0 < 2 ^ 64 → vmpl.0 < 2 ^ 64
     → ((nat_lt apic (2 ^ 32) && in_levels image.vmpl (Some second) vmpl.0) && is_seat image.regions (4096 * page.0) area.0) ≡ true
-    → item_line image (core_line (Some second) (record { apic = apic; seat = Some (page, area); vmpl = vmpl })) ≡ Ok (items.Core (record { apic = apic; seat = Some (page, area); vmpl = vmpl }))
+    → item_line image (core_fields (Some second) (record { apic = apic; seat = Some (page, area); vmpl = vmpl })) ≡ Ok (items.Core (record { apic = apic; seat = Some (page, area); vmpl = vmpl }))
 seated_two image apic page area vmpl second two small p a l within =
     let number = read_again apic small in
     let of_page = read_again (4096 * page.0) p in
@@ -115,7 +115,7 @@ seated_two image apic page area vmpl second two small p a l within =
 -- blocks
 
 pub block_again : (image : Image) (page : Page) (size : Size) → page.0 < 2 ^ 64 → is_in_map image.regions page.0 ≡ true
-    → item_line image (block_line (page, size)) ≡ Ok (items.Block (page, size))
+    → item_line image (block_fields (page, size)) ≡ Ok (items.Block (page, size))
 block_again image page Small small within =
     let number = read_again page.0 small in
     let of_size = read_again 0 (omega arith) in
@@ -133,9 +133,9 @@ announce_again image = refl
 
 -- contents
 
-pub fill_again : (image : Image) (fill : Fill) → fill.gpa.0 < 2 ^ 64 → AreWords fill.words → 0 < length fill.words
+pub fill_again : (image : Image) (fill : Fill) → fill.gpa.0 < 2 ^ 64 → AreOf64Bits fill.words → 0 < length fill.words
     → (is_multiple 8 fill.gpa.0 && nat_le (fill.gpa.0 + length (bytes_of fill.words)) (4096 * (512 * image.regions))) ≡ true
-    → item_line image (fill_line fill) ≡ Ok (items.Bytes fill)
+    → item_line image (fill_fields fill) ≡ Ok (items.Bytes fill)
 fill_again image fill small words some within =
     let number = read_again fill.gpa.0 small in
     let whole = whole_again fill.words some in

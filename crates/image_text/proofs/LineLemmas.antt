@@ -28,7 +28,7 @@ use Rattle.image_grammar.specs.Image.{image_with, head_told, is_vmpl, title, hea
 use Rattle.image_grammar.specs.End.{end_told}
 use Rattle.image_grammar.specs.declared.words.Format.{Format}
 use Rattle.image_grammar.specs.declared.words.Format.TheVariants as formats
-use Rattle.image_text.specs.Written.{Fields, joined, image_text, title_line, vmpl_line, head_lines, only_if, item_lines, range_line, large_line, core_line, block_line, fill_line}
+use Rattle.image_text.specs.Written.{Fields, fields_text, image_text, title_fields, vmpl_fields, head_lines, only_if, item_lines, range_fields, large_fields, core_fields, block_fields, fill_fields}
 use Rattle.image_text.proofs.TextLemmas.{numbered, fields_again, IsField, Begins, AllBegin, begin_append, AreLines, text_again}
 use Rattle.image_text.proofs.FieldLemmas.{number_field}
 
@@ -37,10 +37,10 @@ use Rattle.image_text.proofs.FieldLemmas.{number_field}
 -- a line tells an item that may stand behind those before
 abbrev pub IsTold : Image → Fields → Item → Type 0
 IsTold image line item =
-    (fields (joined line) ≡ line) × (item_line image line ≡ Ok item) × (overlaps image item ≡ false) × (is_lawful item ≡ true)
+    (fields (fields_text line) ≡ line) × (item_line image line ≡ Ok item) × (overlaps image item ≡ false) × (is_lawful item ≡ true)
 
 pub line_step : (image : Image) (n : ℕ) (line : Fields) (item : Item) (more : List Line) → IsTold image line item
-    → lines_told image ((n, joined line) ∷ more) ≡ lines_told (with_item image item) more
+    → lines_told image ((n, fields_text line) ∷ more) ≡ lines_told (with_item image item) more
 line_step image n line item more h = rw (h.0, h.1, h.2, h.3) refl
 
 -- LINES OF ONE KIND
@@ -69,7 +69,7 @@ section line item put step (x ∷ xs) before n rest h =
 abbrev pub base_of : Image → Image
 base_of image = image_with image.regions (record { first = image.vmpl; second = image.second }) image.features image.ghcb.0
 
-word_field : (word : List ℕ) (n : ℕ) → IsField word → n < 2 ^ 64 → fields (joined (word ∷ number n ∷ [])) ≡ word ∷ number n ∷ []
+word_field : (word : List ℕ) (n : ℕ) → IsField word → n < 2 ^ 64 → fields (fields_text (word ∷ number n ∷ [])) ≡ word ∷ number n ∷ []
 word_field word n f small = fields_again word (number n ∷ []) f (number_field n small, tt)
 
 regions_field : IsField (codes "regions")
@@ -95,28 +95,28 @@ head_by : (l1 l2 l3 l4 l5 : List ℕ) (rest : List Line) (format : Format) (leve
     → head_told ((1, l1) ∷ (2, l2) ∷ (3, l3) ∷ (4, l4) ∷ (5, l5) ∷ rest) ≡ Ok (image_with regions levels features ghcb, rest)
 head_by l1 l2 l3 l4 l5 rest format levels regions features ghcb e1 e2 e3 e4 e5 = rw (e1, e2, e3, e4, e5) refl
 
-regions_again : (n most : ℕ) → n < 2 ^ 64 → (nat_le 1 n && nat_le n most) ≡ true → head_line (codes "regions") 1 most (fields (joined (codes "regions" ∷ number n ∷ []))) ≡ Ok n
+regions_again : (n most : ℕ) → n < 2 ^ 64 → (nat_le 1 n && nat_le n most) ≡ true → head_line (codes "regions") 1 most (fields (fields_text (codes "regions" ∷ number n ∷ []))) ≡ Ok n
 regions_again n most small within =
     let again = read_again n small in
     ap (head_line (codes "regions") 1 most) (word_field (codes "regions") n regions_field small) ∙ rw (again, within) refl
 
-features_again : (n most : ℕ) → n < 2 ^ 64 → (nat_le 0 n && nat_le n most) ≡ true → head_line (codes "features") 0 most (fields (joined (codes "features" ∷ number n ∷ []))) ≡ Ok n
+features_again : (n most : ℕ) → n < 2 ^ 64 → (nat_le 0 n && nat_le n most) ≡ true → head_line (codes "features") 0 most (fields (fields_text (codes "features" ∷ number n ∷ []))) ≡ Ok n
 features_again n most small within =
     let again = read_again n small in
     ap (head_line (codes "features") 0 most) (word_field (codes "features") n features_field small) ∙ rw (again, within) refl
 
-ghcb_again : (n most : ℕ) → n < 2 ^ 64 → (nat_le 0 n && nat_le n most) ≡ true → head_line (codes "ghcb") 0 most (fields (joined (codes "ghcb" ∷ number n ∷ []))) ≡ Ok n
+ghcb_again : (n most : ℕ) → n < 2 ^ 64 → (nat_le 0 n && nat_le n most) ≡ true → head_line (codes "ghcb") 0 most (fields (fields_text (codes "ghcb" ∷ number n ∷ []))) ≡ Ok n
 ghcb_again n most small within =
     let again = read_again n small in
     ap (head_line (codes "ghcb") 0 most) (word_field (codes "ghcb") n ghcb_field small) ∙ rw (again, within) refl
 
-one_again : (vmpl : Vmpl) → vmpl.0 < 2 ^ 64 → is_vmpl vmpl.0 ≡ true → levels_line formats.One (fields (joined (vmpl_line vmpl None))) ≡ Ok (record { first = vmpl; second = None })
+one_again : (vmpl : Vmpl) → vmpl.0 < 2 ^ 64 → is_vmpl vmpl.0 ≡ true → levels_line formats.One (fields (fields_text (vmpl_fields vmpl None))) ≡ Ok (record { first = vmpl; second = None })
 one_again vmpl small level =
     let again = read_again vmpl.0 small in
     ap (levels_line formats.One) (word_field (codes "vmpl") vmpl.0 vmpl_field small) ∙ rw (again, level) refl
 
 two_again : (vmpl second : Vmpl) → vmpl.0 < 2 ^ 64 → second.0 < 2 ^ 64 → (is_vmpl vmpl.0 && (is_vmpl second.0 && not (second.0 == vmpl.0))) ≡ true
-    → levels_line formats.Two (fields (joined (vmpl_line vmpl (Some second)))) ≡ Ok (record { first = vmpl; second = Some second })
+    → levels_line formats.Two (fields (fields_text (vmpl_fields vmpl (Some second)))) ≡ Ok (record { first = vmpl; second = Some second })
 two_again vmpl second small other level =
     let again = read_again vmpl.0 small in
     let both = read_again second.0 other in
@@ -133,13 +133,13 @@ AreSmall first (Some second) = (first.0 < 2 ^ 64) × (second.0 < 2 ^ 64)
 
 pub head_again : (regions features ghcb : ℕ) (vmpl : Vmpl) (second : Option Vmpl) (rest : List Fields) → regions < 2 ^ 64 → features < 2 ^ 64 → ghcb < 2 ^ 64 → AreSmall vmpl second
     → HeadFits regions features ghcb → are_levels vmpl second ≡ true
-    → head_told (numbered 1 (title_line second ∷ (codes "regions" ∷ number regions ∷ []) ∷ vmpl_line vmpl second ∷ (codes "features" ∷ number features ∷ []) ∷ (codes "ghcb" ∷ number ghcb ∷ []) ∷ rest))
+    → head_told (numbered 1 (title_fields second ∷ (codes "regions" ∷ number regions ∷ []) ∷ vmpl_fields vmpl second ∷ (codes "features" ∷ number features ∷ []) ∷ (codes "ghcb" ∷ number ghcb ∷ []) ∷ rest))
     ≡ Ok (image_with regions (record { first = vmpl; second = second }) features ghcb, numbered 6 rest)
 head_again regions features ghcb vmpl None rest r f g v fits level =
-    head_by (joined (title_line None)) (joined (codes "regions" ∷ number regions ∷ [])) (joined (vmpl_line vmpl None)) (joined (codes "features" ∷ number features ∷ [])) (joined (codes "ghcb" ∷ number ghcb ∷ [])) (numbered 6 rest) formats.One (record { first = vmpl; second = None }) regions features ghcb
+    head_by (fields_text (title_fields None)) (fields_text (codes "regions" ∷ number regions ∷ [])) (fields_text (vmpl_fields vmpl None)) (fields_text (codes "features" ∷ number features ∷ [])) (fields_text (codes "ghcb" ∷ number ghcb ∷ [])) (numbered 6 rest) formats.One (record { first = vmpl; second = None }) regions features ghcb
     refl (regions_again regions 512 r fits.0) (one_again vmpl v level) (features_again features 0xffffffffffffffff f fits.1) (ghcb_again ghcb (512 * regions - 1) g fits.2)
 head_again regions features ghcb vmpl (Some second) rest r f g v fits level =
-    head_by (joined (title_line (Some second))) (joined (codes "regions" ∷ number regions ∷ [])) (joined (vmpl_line vmpl (Some second))) (joined (codes "features" ∷ number features ∷ [])) (joined (codes "ghcb" ∷ number ghcb ∷ [])) (numbered 6 rest) formats.Two (record { first = vmpl; second = Some second }) regions features ghcb
+    head_by (fields_text (title_fields (Some second))) (fields_text (codes "regions" ∷ number regions ∷ [])) (fields_text (vmpl_fields vmpl (Some second))) (fields_text (codes "features" ∷ number features ∷ [])) (fields_text (codes "ghcb" ∷ number ghcb ∷ [])) (numbered 6 rest) formats.Two (record { first = vmpl; second = Some second }) regions features ghcb
     refl (regions_again regions 512 r fits.0) (two_again vmpl second v.0 v.1 level) (features_again features 0xffffffffffffffff f fits.1) (ghcb_again ghcb (512 * regions - 1) g fits.2)
 
 -- THE OTHER LINES
@@ -183,11 +183,11 @@ after_fills image = put_fills (after_announce image) image.fills
 
 -- each line stands behind those before
 pub record LinesFit (image : Image) : Type 0 where
-  pub ranges : FitsBy range_line (λ range. items.Range range) (put_ranges (base_of image)) [] image.ranges
-  pub large : FitsBy large_line (λ region. items.Large region) (put_large (after_ranges image)) [] image.large
-  pub cores : FitsBy (core_line image.second) (λ core. items.Core core) (put_cores (after_large image)) [] image.cores
-  pub blocks : FitsBy block_line (λ block. items.Block block) (put_blocks (after_cores image)) [] image.blocks
-  pub fills : FitsBy fill_line (λ fill. items.Bytes fill) (put_fills (after_announce image)) [] image.fills
+  pub ranges : FitsBy range_fields (λ range. items.Range range) (put_ranges (base_of image)) [] image.ranges
+  pub large : FitsBy large_fields (λ region. items.Large region) (put_large (after_ranges image)) [] image.large
+  pub cores : FitsBy (core_fields image.second) (λ core. items.Core core) (put_cores (after_large image)) [] image.cores
+  pub blocks : FitsBy block_fields (λ block. items.Block block) (put_blocks (after_cores image)) [] image.blocks
+  pub fills : FitsBy fill_fields (λ fill. items.Bytes fill) (put_fills (after_announce image)) [] image.fills
 
 only_split : (t : Bool) (image : Image) (n : ℕ) (rest : List Fields) → image.split ≡ false
     → (m : ℕ) × (lines_told image (numbered n (only_if t (codes "pool" ∷ codes "split" ∷ []) ++ rest)) ≡ lines_told (record image { split = t }) (numbered m rest))
@@ -201,26 +201,26 @@ only_announce false image n rest e = (n, ap (λ (t : Bool). lines_told (record i
 
 pub items_again : (image : Image) (n : ℕ) → LinesFit image → lines_told (base_of image) (numbered n (item_lines image)) ≡ Ok (after_fills image)
 items_again image n fit =
-    let fills = map fill_line image.fills in
+    let fills = map fill_fields image.fills in
     let told = only_if image.announce (codes "announce" ∷ []) ++ fills in
     let split = only_if image.split (codes "pool" ∷ codes "split" ∷ []) ++ told in
-    let blocks = map block_line image.blocks ++ split in
-    let cores = map (core_line image.second) image.cores ++ blocks in
-    let large = map large_line image.large ++ cores in
+    let blocks = map block_fields image.blocks ++ split in
+    let cores = map (core_fields image.second) image.cores ++ blocks in
+    let large = map large_fields image.large ++ cores in
     let n1 = n + length image.ranges in
     let n2 = n1 + length image.large in
     let n3 = n2 + length image.cores in
     let n4 = n3 + length image.blocks in
     let s = only_split image.split (after_blocks image) n4 told refl in
     let a = only_announce image.announce (after_split image) s.0 fills refl in
-    section range_line (λ range. items.Range range) (put_ranges (base_of image)) (λ before x. refl) image.ranges [] n large fit.ranges
-    ∙ section large_line (λ region. items.Large region) (put_large (after_ranges image)) (λ before x. refl) image.large [] n1 cores fit.large
-    ∙ section (core_line image.second) (λ core. items.Core core) (put_cores (after_large image)) (λ before x. refl) image.cores [] n2 blocks fit.cores
-    ∙ section block_line (λ block. items.Block block) (put_blocks (after_cores image)) (λ before x. refl) image.blocks [] n3 split fit.blocks
+    section range_fields (λ range. items.Range range) (put_ranges (base_of image)) (λ before x. refl) image.ranges [] n large fit.ranges
+    ∙ section large_fields (λ region. items.Large region) (put_large (after_ranges image)) (λ before x. refl) image.large [] n1 cores fit.large
+    ∙ section (core_fields image.second) (λ core. items.Core core) (put_cores (after_large image)) (λ before x. refl) image.cores [] n2 blocks fit.cores
+    ∙ section block_fields (λ block. items.Block block) (put_blocks (after_cores image)) (λ before x. refl) image.blocks [] n3 split fit.blocks
     ∙ s.1
     ∙ a.1
     ∙ ap (λ (l : List Fields). lines_told (after_announce image) (numbered a.0 l)) (sym (append-nil fills))
-    ∙ section fill_line (λ fill. items.Bytes fill) (put_fills (after_announce image)) (λ before x. refl) image.fills [] a.0 [] fit.fills
+    ∙ section fill_fields (λ fill. items.Bytes fill) (put_fills (after_announce image)) (λ before x. refl) image.fills [] a.0 [] fit.fills
 
 -- without accepts, faults and host lines that is the image
 pub whole : (image : Image) → image.accepts ≡ [] → image.faults ≡ [] → image.host ≡ [] → after_fills image ≡ image
@@ -239,11 +239,11 @@ begin_only : (t : Bool) (line : Fields) → Begins line → AllBegin (only_if t 
 begin_only true line b = (b, tt)
 begin_only false line b = tt
 
-begin_title : (second : Option Vmpl) → Begins (title_line second)
+begin_title : (second : Option Vmpl) → Begins (title_fields second)
 begin_title None = refl
 begin_title (Some second) = refl
 
-begin_vmpl : (first : Vmpl) (second : Option Vmpl) → Begins (vmpl_line first second)
+begin_vmpl : (first : Vmpl) (second : Option Vmpl) → Begins (vmpl_fields first second)
 begin_vmpl first None = refl
 begin_vmpl first (Some second) = refl
 
@@ -258,13 +258,13 @@ all_begin image = (
         refl,
         (
           refl,
-          begin_append (map range_line image.ranges) _ (begin_map range_line (λ x. refl) image.ranges)
-              (begin_append (map large_line image.large) _ (begin_map large_line (λ x. refl) image.large)
-              (begin_append (map (core_line image.second) image.cores) _ (begin_map (core_line image.second) (λ x. refl) image.cores)
-              (begin_append (map block_line image.blocks) _ (begin_map block_line (λ x. refl) image.blocks)
+          begin_append (map range_fields image.ranges) _ (begin_map range_fields (λ x. refl) image.ranges)
+              (begin_append (map large_fields image.large) _ (begin_map large_fields (λ x. refl) image.large)
+              (begin_append (map (core_fields image.second) image.cores) _ (begin_map (core_fields image.second) (λ x. refl) image.cores)
+              (begin_append (map block_fields image.blocks) _ (begin_map block_fields (λ x. refl) image.blocks)
               (begin_append (only_if image.split (codes "pool" ∷ codes "split" ∷ [])) _ (begin_only image.split (codes "pool" ∷ codes "split" ∷ []) refl)
               (begin_append (only_if image.announce (codes "announce" ∷ [])) _ (begin_only image.announce (codes "announce" ∷ []) refl)
-              (begin_map fill_line (λ x. refl) image.fills)))))),
+              (begin_map fill_fields (λ x. refl) image.fills)))))),
         ),
       ),
     ),

@@ -21,7 +21,7 @@ use Rattle.svsm_steps.specs.Partition.{has_page}
 use Rattle.svsm_steps.specs.Words.{as_bit}
 use Rattle.svsm_steps.specs.Image.{is_in_range, range_of, owner_in, page_in, is_held_large, is_pools, blocks_by_lines, no_region}
 use Rattle.svsm_steps.specs.Sound.{IsSound, is_sound_core, is_level, has_vmsa, HasBlocks, is_sound_block}
-use Rattle.image_text.specs.ReadsAgain.{IsWritable, AreWords}
+use Rattle.image_text.specs.ReadsAgain.{IsWritable, AreOf64Bits}
 use Rattle.image_text.specs.Saved.{saved_core, saved_block, saved, saved_fills, fills_from}
 use Rattle.image_text.specs.SavedSound.{IsSayable, SavesReadable}
 use Rattle.image_text.proofs.SavedLemmas.{once, ranges_sound, fills_within, FillsWithin, fills_sound, fills_words}
@@ -57,7 +57,7 @@ has_blocks image state s (block ∷ blocks) e = λ page.
     ∙ ap (λ (o : Owner). as_bit (same_owner o Pool)) (sym (owner_is image state s page))
 
 -- WORDS
-words_map : (state : State) → ((number : ℕ) → word_at (8 * number) state < 2 ^ 64) → (first count : ℕ) → AreWords (map (λ number. word_at (8 * number) state) (range_with_len first count))
+words_map : (state : State) → ((number : ℕ) → word_at (8 * number) state < 2 ^ 64) → (first count : ℕ) → AreOf64Bits (map (λ number. word_at (8 * number) state) (range_with_len first count))
 words_map state h first zero = tt
 words_map state h first (suc count) = (h first, words_map state h (first + 1) count)
 

@@ -11,7 +11,7 @@ use Rattle.svsm_types.specs.declared.image.Range.{Range}
 use Rattle.svsm_types.specs.declared.image.Fill.{Fill}
 use Rattle.svsm_steps.specs.Image.{is_in_range}
 use Rattle.svsm_steps.specs.Sound.{is_sound_range, is_sound_fill, has_lawful_rights, is_valid_where_held}
-use Rattle.image_text.specs.ReadsAgain.{AreWords, AreFillWords}
+use Rattle.image_text.specs.ReadsAgain.{AreOf64Bits, AreFillsOf64Bits}
 use Rattle.image_text.specs.Saved.{Saying, same_saying, range_at, joining, ranges_from, onto_fill, fills_from}
 use Rattle.image_text.proofs.RangeLemmas.{says_of, HeadAt, ranges_head}
 use Rattle.image_text.proofs.SoundLemmas.{all_hold}
@@ -144,7 +144,7 @@ ranges_sound regions sayings size h = sound_of regions (ranges_from 0 sayings) (
 
 abbrev pub FillsWithin : ℕ → List Fill → Type 0
 FillsWithin bound [] = ⊤
-FillsWithin bound (fill ∷ fills) = (fill.gpa.0 % 8 ≡ 0) × (0 < length fill.words) × (fill.gpa.0 + 8 * length fill.words ≤ 8 * bound) × AreWords fill.words × FillsWithin bound fills
+FillsWithin bound (fill ∷ fills) = (fill.gpa.0 % 8 ≡ 0) × (0 < length fill.words) × (fill.gpa.0 + 8 * length fill.words ≤ 8 * bound) × AreOf64Bits fill.words × FillsWithin bound fills
 
 onto_by : (t : Bool) (bound at word : ℕ) (fill : Fill) (fills : List Fill) → (fill.gpa.0 == 8 * (at + 1)) ≡ t → at + 1 ≤ bound → word < 2 ^ 64 → FillsWithin bound (fill ∷ fills)
     → FillsWithin bound (if t then record { gpa = record { 0 = 8 * at }; words = word ∷ fill.words } ∷ fills else record { gpa = record { 0 = 8 * at }; words = word ∷ [] } ∷ fill ∷ fills)
@@ -161,7 +161,7 @@ from_by : (t : Bool) (bound at word : ℕ) (fills : List Fill) → at + 1 ≤ bo
 from_by true bound at word fills low small h = h
 from_by false bound at word fills low small h = onto_within bound at word fills low small h
 
-pub fills_within : (bound at : ℕ) (words : List ℕ) → at + length words ≤ bound → AreWords words → FillsWithin bound (fills_from at words)
+pub fills_within : (bound at : ℕ) (words : List ℕ) → at + length words ≤ bound → AreOf64Bits words → FillsWithin bound (fills_from at words)
 fills_within bound at [] low small = tt
 fills_within bound at (word ∷ words) low small =
     from_by (word == 0) bound at word (fills_from (at + 1) words) (omega (arith, low)) small.0 (fills_within bound (at + 1) words (omega (arith, low)) small.1)
@@ -173,7 +173,7 @@ pub fills_sound : (regions : ℕ) (fills : List Fill) → FillsWithin (512 * (51
 fills_sound regions [] h = refl
 fills_sound regions (fill ∷ fills) h = all_hold _ _ (fill_sound fill.gpa.0 (length fill.words) regions h.0 h.1 h.2) (fills_sound regions fills h.4)
 
-pub fills_words : (bound : ℕ) (fills : List Fill) → FillsWithin bound fills → AreFillWords fills
+pub fills_words : (bound : ℕ) (fills : List Fill) → FillsWithin bound fills → AreFillsOf64Bits fills
 fills_words bound [] h = tt
 fills_words bound (fill ∷ fills) h = (h.3, fills_words bound fills h.4)
 

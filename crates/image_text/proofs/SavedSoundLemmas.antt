@@ -28,7 +28,7 @@ use Rattle.svsm_steps.specs.Words.{as_bit}
 use Rattle.svsm_steps.specs.Registry.{of_page}
 use Rattle.svsm_steps.specs.Image.{is_in_range, range_of, owner_in, page_in, is_held_large, is_pools, blocks_by_lines, no_region}
 use Rattle.svsm_steps.specs.Sound.{IsSound, is_sound_core, is_sound_seat, is_level, has_vmsa, sits_at, HasBlocks, is_sound_block}
-use Rattle.image_text.specs.ReadsAgain.{IsWritable, AreWords, AreFillWords}
+use Rattle.image_text.specs.ReadsAgain.{IsWritable, AreOf64Bits, AreFillsOf64Bits}
 use Rattle.image_text.specs.Saved.{Saying, saying, range_at, hw_state, saved_ranges, saved_large, saved_fills, is_idle, seat_of, saved_core, saved_block, saved, ranges_from, fills_from}
 use Rattle.image_text.specs.Savable.{IsSavable}
 use Rattle.image_text.specs.SavedSound.{IsSayable, SavesReadable}

@@ -28,9 +28,9 @@ use Rattle.image_grammar.specs.declared.item.Item.{Item}
 use Rattle.image_grammar.specs.declared.item.Item.TheVariants as items
 use Rattle.image_grammar.specs.Forms.{item_line, is_run}
 use Rattle.image_grammar.specs.Grammar.{is_any_page, has_range, core_taken, seat_taken}
-use Rattle.image_text.specs.Written.{Fields, owner_field, state_field, size_field, words_field, range_line, large_line, core_line, block_line, fill_line, seat_fields, level_fields}
+use Rattle.image_text.specs.Written.{Fields, owner_field, state_field, size_field, words_field, range_fields, large_fields, core_fields, block_fields, fill_fields, seat_fields, level_fields}
 use Rattle.image_text.proofs.TextLemmas.{IsField, AreFields, AreLines, fields_again}
-use Rattle.image_text.specs.ReadsAgain.{AreWords, AreFillWords}
+use Rattle.image_text.specs.ReadsAgain.{AreOf64Bits, AreFillsOf64Bits}
 use Rattle.image_text.proofs.FieldLemmas.{number_field, bytes_of, bytes_length, words_are_field}
 use Rattle.image_text.proofs.FormLemmas.{range_again, large_again, in_levels, parked_one, parked_two, seated_one, seated_two, block_again, fill_again}
 use Rattle.image_text.proofs.LineLemmas.{FitsBy, IsTold, put_ranges, put_large, put_cores, put_blocks, put_fills, AreSmall}
@@ -148,7 +148,7 @@ range_numbers regions range h =
     let n = run_numbers range.first.0 range.count range.rights regions a.0 c.0 in
     record { some = n.0; most = n.1; rights = n.2 }
 
-range_are_fields : (regions : ℕ) (range : Range) → regions ≤ 512 → RangeNumbers regions range → AreFields (range_line range)
+range_are_fields : (regions : ℕ) (range : Range) → regions ≤ 512 → RangeNumbers regions range → AreFields (range_fields range)
 range_are_fields regions range most n = (
   range_word,
   (
@@ -164,7 +164,7 @@ in_its_range : (page : ℕ) (range : Range) → range.first.0 ≤ page → page 
 in_its_range page range low high = grind (arith, nat_tests)
 
 range_told : (base : Image) (before : List Range) (range : Range) (more : List Range) → base.regions ≤ 512 → is_sound_range base.regions range ≡ true
-    → ((page : ℕ) → count_by (is_in_range page) (before ++ range ∷ more) ≤ 1) → IsTold (put_ranges base before) (range_line range) (items.Range range)
+    → ((page : ℕ) → count_by (is_in_range page) (before ++ range ∷ more) ≤ 1) → IsTold (put_ranges base before) (range_fields range) (items.Range range)
 range_told base before range more most sound apart =
     let n = range_numbers base.regions range sound in
     let f = range_are_fields base.regions range most n in
@@ -178,7 +178,7 @@ range_told base before range more most sound apart =
     )
 
 pub ranges_fit : (base : Image) (ranges before : List Range) → base.regions ≤ 512 → list_all (is_sound_range base.regions) ranges ≡ true
-    → ((page : ℕ) → count_by (is_in_range page) (before ++ ranges) ≤ 1) → FitsBy range_line (λ range. items.Range range) (put_ranges base) before ranges
+    → ((page : ℕ) → count_by (is_in_range page) (before ++ ranges) ≤ 1) → FitsBy range_fields (λ range. items.Range range) (put_ranges base) before ranges
 ranges_fit base [] before most sound apart = tt
 ranges_fit base (range ∷ ranges) before most sound apart =
     let s = both (is_sound_range base.regions range) (list_all (is_sound_range base.regions) ranges) sound in (
@@ -187,7 +187,7 @@ ranges_fit base (range ∷ ranges) before most sound apart =
           (λ page. subst (λ (l : List Range). count_by (is_in_range page) l ≤ 1) (sym (append_assoc before (range ∷ []) ranges)) (apart page)),
     )
 
-pub range_lines_are : (regions : ℕ) (ranges : List Range) → regions ≤ 512 → list_all (is_sound_range regions) ranges ≡ true → AreLines (map range_line ranges)
+pub range_lines_are : (regions : ℕ) (ranges : List Range) → regions ≤ 512 → list_all (is_sound_range regions) ranges ≡ true → AreLines (map range_fields ranges)
 range_lines_are regions [] most sound = tt
 range_lines_are regions (range ∷ ranges) most sound =
     let s = both (is_sound_range regions range) (list_all (is_sound_range regions) ranges) sound in
@@ -198,11 +198,11 @@ range_lines_are regions (range ∷ ranges) most sound =
 below_is : (m n : ℕ) → nat_lt m n ≡ true → m < n
 below_is m n h = grind (arith, nat_tests)
 
-large_are_fields : (region : ℕ) → region < 2 ^ 64 → AreFields (large_line region)
+large_are_fields : (region : ℕ) → region < 2 ^ 64 → AreFields (large_fields region)
 large_are_fields region small = (large_word, (number_field region small, tt))
 
 pub large_fit : (base : Image) (regions before : List ℕ) → base.regions ≤ 512 → list_all (λ region. nat_lt region base.regions) regions ≡ true
-    → FitsBy large_line (λ region. items.Large region) (put_large base) before regions
+    → FitsBy large_fields (λ region. items.Large region) (put_large base) before regions
 large_fit base [] before most sound = tt
 large_fit base (region ∷ regions) before most sound =
     let s = both (nat_lt region base.regions) (list_all (λ region. nat_lt region base.regions) regions) sound in
@@ -210,7 +210,7 @@ large_fit base (region ∷ regions) before most sound =
     let f = large_are_fields region small in
     ((fields_again (codes "large") _ f.0 f.1, large_again (put_large base before) region small s.0, refl, refl), large_fit base regions (before ++ region ∷ []) most s.1)
 
-pub large_lines_are : (most : ℕ) (regions : List ℕ) → most ≤ 512 → list_all (λ region. nat_lt region most) regions ≡ true → AreLines (map large_line regions)
+pub large_lines_are : (most : ℕ) (regions : List ℕ) → most ≤ 512 → list_all (λ region. nat_lt region most) regions ≡ true → AreLines (map large_fields regions)
 large_lines_are most [] le sound = tt
 large_lines_are most (region ∷ regions) le sound =
     let s = both (nat_lt region most) (list_all (λ region. nat_lt region most) regions) sound in
@@ -255,7 +255,7 @@ apic_small apic h = let low = below_is apic (2 ^ 32) h in omega (arith, low)
 
 core_told : (base : Image) (second : Option Vmpl) (apic : ℕ) (seat : Option (Page × Gpa)) (level : Vmpl) → base.second ≡ second → base.regions ≤ 512 → level.0 < 2 ^ 64
     → (nat_lt apic (2 ^ 32) && is_sound_seat base.regions seat) ≡ true → in_levels base.vmpl second level.0 ≡ true
-    → item_line base (core_line second (record { apic = apic; seat = seat; vmpl = level })) ≡ Ok (items.Core (record { apic = apic; seat = seat; vmpl = level }))
+    → item_line base (core_fields second (record { apic = apic; seat = seat; vmpl = level })) ≡ Ok (items.Core (record { apic = apic; seat = seat; vmpl = level }))
 core_told base None apic None level e most l sound of_level =
     let s = both (nat_lt apic (2 ^ 32)) true sound in
     let same = level_one base.vmpl level of_level in
@@ -288,7 +288,7 @@ seat_are_fields regions (Some seat) more most sound h =
     let b = both (is_in_map regions (page_of seat.1.0)) (is_multiple 8 seat.1.0) a.1 in
     (vmsa_word, (number_field (4096 * seat.0.0) (page_small regions seat.0.0 most a.0), (caa_word, (number_field seat.1.0 (area_small regions seat.1.0 most b.0), h))))
 
-core_are_fields : (regions : ℕ) (second : Option Vmpl) (core : CoreLine) → regions ≤ 512 → is_sound_core regions core ≡ true → core.vmpl.0 < 2 ^ 64 → AreFields (core_line second core)
+core_are_fields : (regions : ℕ) (second : Option Vmpl) (core : CoreLine) → regions ≤ 512 → is_sound_core regions core ≡ true → core.vmpl.0 < 2 ^ 64 → AreFields (core_fields second core)
 core_are_fields regions second core most sound l =
     let s = both (nat_lt core.apic (2 ^ 32)) (is_sound_seat regions core.seat) sound in
     (core_word, (number_field core.apic (apic_small core.apic s.0), seat_are_fields regions core.seat (level_fields second core.vmpl) most s.1 (level_are_fields second core.vmpl l)))
@@ -329,7 +329,7 @@ level_small_by first (Some second) level small h = level_small_two first second 
 pub cores_fit : (base : Image) (second : Option Vmpl) (cores before : List CoreLine) → base.second ≡ second → base.regions ≤ 512 → AreSmall base.vmpl second
     → list_all (is_sound_core base.regions) cores ≡ true → list_all (λ (core : CoreLine). in_levels base.vmpl second core.vmpl.0) cores ≡ true
     → ((apic : ℕ) → count_by (λ (c : CoreLine). c.apic == apic) (before ++ cores) ≤ 1) → ((page : ℕ) → count_by (has_vmsa page) (before ++ cores) ≤ 1) → length (before ++ cores) ≤ 64
-    → FitsBy (core_line second) (λ core. items.Core core) (put_cores base) before cores
+    → FitsBy (core_fields second) (λ core. items.Core core) (put_cores base) before cores
 cores_fit base second [] before e most small sound levels apics vmsas few = tt
 cores_fit base second (core ∷ cores) before e most small sound levels apics vmsas few =
     let s = both (is_sound_core base.regions core) (list_all (is_sound_core base.regions) cores) sound in
@@ -345,7 +345,7 @@ cores_fit base second (core ∷ cores) before e most small sound levels apics vm
     )
 
 pub core_lines_are : (regions : ℕ) (first : Vmpl) (second : Option Vmpl) (cores : List CoreLine) → regions ≤ 512 → AreSmall first second
-    → list_all (is_sound_core regions) cores ≡ true → list_all (λ (core : CoreLine). in_levels first second core.vmpl.0) cores ≡ true → AreLines (map (core_line second) cores)
+    → list_all (is_sound_core regions) cores ≡ true → list_all (λ (core : CoreLine). in_levels first second core.vmpl.0) cores ≡ true → AreLines (map (core_fields second) cores)
 core_lines_are regions first second [] most small sound levels = tt
 core_lines_are regions first second (core ∷ cores) most small sound levels =
     let s = both (is_sound_core regions core) (list_all (is_sound_core regions) cores) sound in
@@ -354,7 +354,7 @@ core_lines_are regions first second (core ∷ cores) most small sound levels =
 
 -- BLOCKS
 
-block_are_fields : (block : Page × Size) → block.0.0 < 2 ^ 64 → AreFields (block_line block)
+block_are_fields : (block : Page × Size) → block.0.0 < 2 ^ 64 → AreFields (block_fields block)
 block_are_fields block small = (block_word, (number_field block.0.0 small, (size_is_field block.1, tt)))
 
 abbrev pub in_the_map : ℕ → Page × Size → Bool
@@ -364,7 +364,7 @@ block_small : (regions : ℕ) (block : Page × Size) → regions ≤ 512 → in_
 block_small regions block most h = let low = in_map_is regions block.0.0 h in omega (arith, low)
 
 pub blocks_fit : (base : Image) (blocks before : List (Page × Size)) → base.regions ≤ 512 → list_all (in_the_map base.regions) blocks ≡ true
-    → FitsBy block_line (λ block. items.Block block) (put_blocks base) before blocks
+    → FitsBy block_fields (λ block. items.Block block) (put_blocks base) before blocks
 blocks_fit base [] before most sound = tt
 blocks_fit base (block ∷ blocks) before most sound =
     let s = both (in_the_map base.regions block) (list_all (in_the_map base.regions) blocks) sound in
@@ -372,7 +372,7 @@ blocks_fit base (block ∷ blocks) before most sound =
     let f = block_are_fields block small in
     ((fields_again (codes "block") _ f.0 f.1, block_again (put_blocks base before) block.0 block.1 small s.0, refl, refl), blocks_fit base blocks (before ++ block ∷ []) most s.1)
 
-pub block_lines_are : (regions : ℕ) (blocks : List (Page × Size)) → regions ≤ 512 → list_all (in_the_map regions) blocks ≡ true → AreLines (map block_line blocks)
+pub block_lines_are : (regions : ℕ) (blocks : List (Page × Size)) → regions ≤ 512 → list_all (in_the_map regions) blocks ≡ true → AreLines (map block_fields blocks)
 block_lines_are regions [] most sound = tt
 block_lines_are regions (block ∷ blocks) most sound =
     let s = both (in_the_map regions block) (list_all (in_the_map regions) blocks) sound in
@@ -391,13 +391,13 @@ fill_within gpa count bytes regions h e =
     let b = both (nat_lt 0 count) _ a.1 in
     all_hold _ _ a.0 (ap (λ (n : ℕ). nat_le (gpa + n) (4096 * (512 * regions))) e ∙ b.1)
 
-fill_are_fields : (regions : ℕ) (fill : Fill) → regions ≤ 512 → is_sound_fill regions fill ≡ true → AreFields (fill_line fill)
+fill_are_fields : (regions : ℕ) (fill : Fill) → regions ≤ 512 → is_sound_fill regions fill ≡ true → AreFields (fill_fields fill)
 fill_are_fields regions fill most sound =
     let n = fill_numbers fill.gpa.0 (length fill.words) regions sound in
     (bytes_word, (number_field fill.gpa.0 (omega (arith, n.1, most)), (words_are_field fill.words n.0, tt)))
 
-pub fills_fit : (base : Image) (fills before : List Fill) → base.regions ≤ 512 → list_all (is_sound_fill base.regions) fills ≡ true → AreFillWords fills
-    → FitsBy fill_line (λ fill. items.Bytes fill) (put_fills base) before fills
+pub fills_fit : (base : Image) (fills before : List Fill) → base.regions ≤ 512 → list_all (is_sound_fill base.regions) fills ≡ true → AreFillsOf64Bits fills
+    → FitsBy fill_fields (λ fill. items.Bytes fill) (put_fills base) before fills
 fills_fit base [] before most sound words = tt
 fills_fit base (fill ∷ fills) before most sound words =
     let s = both (is_sound_fill base.regions fill) (list_all (is_sound_fill base.regions) fills) sound in
@@ -412,7 +412,7 @@ fills_fit base (fill ∷ fills) before most sound words =
       fills_fit base fills (before ++ fill ∷ []) most s.1 words.1,
     )
 
-pub fill_lines_are : (regions : ℕ) (fills : List Fill) → regions ≤ 512 → list_all (is_sound_fill regions) fills ≡ true → AreLines (map fill_line fills)
+pub fill_lines_are : (regions : ℕ) (fills : List Fill) → regions ≤ 512 → list_all (is_sound_fill regions) fills ≡ true → AreLines (map fill_fields fills)
 fill_lines_are regions [] most sound = tt
 fill_lines_are regions (fill ∷ fills) most sound =
     let s = both (is_sound_fill regions fill) (list_all (is_sound_fill regions) fills) sound in

@@ -6,7 +6,7 @@ use Rattle.std.proofs.lemmas.List.{append-nil}
 use Rattle.std.proofs.lemmas.Bool.Decides.{nat_tests}
 use Rattle.svsm_text.specs.Lines.{lines, fields, is_newline, is_space, begins_with_space}
 use Rattle.image_grammar.specs.Kept.{is_skipped, kept_from, Line}
-use Rattle.image_text.specs.Written.{Fields, spaced, joined, ended}
+use Rattle.image_text.specs.Written.{Fields, spaced, fields_text, line_text}
 
 -- each byte is past the space
 abbrev pub IsPlain : List ℕ → Type 0
@@ -50,7 +50,7 @@ first_field [] b bs h s = ap (λ (t : Bool). if t then fields (b ∷ bs) else []
 first_field (x ∷ f) b bs h s = onto_fields x (f ++ 32 ∷ b ∷ bs) (no_space x h.0) ∙ ap (onto_first x) (first_field f b bs h.1 s)
 
 -- the fields of a line that was written
-pub fields_again : (field : List ℕ) (more : Fields) → IsField field → AreFields more → fields (joined (field ∷ more)) ≡ field ∷ more
+pub fields_again : (field : List ℕ) (more : Fields) → IsField field → AreFields more → fields (fields_text (field ∷ more)) ≡ field ∷ more
 fields_again [] more f h = absurd f
 fields_again (b ∷ bs) [] f h = ap fields (append-nil (b ∷ bs)) ∙ only_field b bs f
 fields_again (b ∷ bs) ([] ∷ more) f h = absurd h.0
@@ -80,7 +80,7 @@ more_line : (fs : Fields) → AreFields fs → IsLine (flat_map spaced fs)
 more_line [] h = tt
 more_line (f ∷ fs) h = (refl, line_append f (flat_map spaced fs) (plain_line f (field_plain f h.0)) (more_line fs h.1))
 
-joined_line : (fs : Fields) → AreFields fs → IsLine (joined fs)
+joined_line : (fs : Fields) → AreFields fs → IsLine (fields_text fs)
 joined_line [] h = tt
 joined_line (f ∷ fs) h = line_append f (flat_map spaced fs) (plain_line f (field_plain f h.0)) (more_line fs h.1)
 
@@ -99,12 +99,12 @@ pub lines_append : (a b : List Fields) → AreLines a → AreLines b → AreLine
 lines_append [] b p q = q
 lines_append (x ∷ a) b p q = (p.0, lines_append a b p.1 q)
 
-pub lines_again : (all : List Fields) → AreLines all → lines (flat_map ended all) ≡ map joined all
+pub lines_again : (all : List Fields) → AreLines all → lines (flat_map line_text all) ≡ map fields_text all
 lines_again [] h = refl
 lines_again (fs ∷ all) h =
-    ap lines (append_assoc (joined fs) (10 ∷ []) (flat_map ended all))
-    ∙ line_again (joined fs) (flat_map ended all) (joined_line fs h.0)
-    ∙ ap (λ (l : List (List ℕ)). joined fs ∷ l) (lines_again all h.1)
+    ap lines (append_assoc (fields_text fs) (10 ∷ []) (flat_map line_text all))
+    ∙ line_again (fields_text fs) (flat_map line_text all) (joined_line fs h.0)
+    ∙ ap (λ (l : List (List ℕ)). fields_text fs ∷ l) (lines_again all h.1)
 
 -- KEPT LINES
 
@@ -122,7 +122,7 @@ pub begin_append : (a b : List Fields) → AllBegin a → AllBegin b → AllBegi
 begin_append [] b p q = q
 begin_append (x ∷ a) b p q = (p.0, begin_append a b p.1 q)
 
-not_skipped : (fs : Fields) → Begins fs → is_skipped (joined fs) ≡ false
+not_skipped : (fs : Fields) → Begins fs → is_skipped (fields_text fs) ≡ false
 not_skipped [] h = absurd h
 not_skipped ([] ∷ fs) h = absurd h
 not_skipped ((b ∷ bs) ∷ fs) h = h
@@ -130,14 +130,14 @@ not_skipped ((b ∷ bs) ∷ fs) h = h
 -- each line with its number
 abbrev pub numbered : ℕ → List Fields → List Line
 numbered first [] = []
-numbered first (fs ∷ more) = (first, joined fs) ∷ numbered (first + 1) more
+numbered first (fs ∷ more) = (first, fields_text fs) ∷ numbered (first + 1) more
 
-pub all_kept : (first : ℕ) (all : List Fields) → AllBegin all → kept_from first (map joined all) ≡ numbered first all
+pub all_kept : (first : ℕ) (all : List Fields) → AllBegin all → kept_from first (map fields_text all) ≡ numbered first all
 all_kept first [] h = refl
 all_kept first (fs ∷ all) h =
-    ap (λ (t : Bool). if not t then (first, joined fs) ∷ kept_from (first + 1) (map joined all) else kept_from (first + 1) (map joined all)) (not_skipped fs h.0)
-    ∙ ap (λ (l : List Line). (first, joined fs) ∷ l) (all_kept (first + 1) all h.1)
+    ap (λ (t : Bool). if not t then (first, fields_text fs) ∷ kept_from (first + 1) (map fields_text all) else kept_from (first + 1) (map fields_text all)) (not_skipped fs h.0)
+    ∙ ap (λ (l : List Line). (first, fields_text fs) ∷ l) (all_kept (first + 1) all h.1)
 
 -- the text, line by line
-pub text_again : (all : List Fields) → AreLines all → AllBegin all → kept_from 1 (lines (flat_map ended all)) ≡ numbered 1 all
+pub text_again : (all : List Fields) → AreLines all → AllBegin all → kept_from 1 (lines (flat_map line_text all)) ≡ numbered 1 all
 text_again all h b = ap (kept_from 1) (lines_again all h) ∙ all_kept 1 all b

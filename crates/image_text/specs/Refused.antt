@@ -25,12 +25,13 @@ is_unsaved image state page =
     not (same_truth (recorded_at page state) (page_at page state).validated)
     || (page == image.ghcb.0 && (page_at page state).assigned)
 
--- the first core that ended early, and the first page that no image can say
+-- the first core that ended early
 abbrev pub first_core : List CoreRun → Option CoreRun
 first_core cores = find (λ (run : CoreRun). ended_early run.end) cores
 
-abbrev pub first_page : Image → State → Option ℕ
-first_page image state = find (is_unsaved image state) (range_with_len 0 (512 * image.regions))
+-- the first page that no image can say
+abbrev pub first_unsaved_page : Image → State → Option ℕ
+first_unsaved_page image state = find (is_unsaved image state) (range_with_len 0 (512 * image.regions))
 
 -- an image has at most so many bytes
 abbrev pub longest : ℕ
@@ -40,14 +41,17 @@ longest = 16777216
 abbrev pub text_if_short : List ℕ → Result (List ℕ) SaveError
 text_if_short text = if nat_lt longest (length text) then Err errors.Long else Ok text
 
+-- where all cores ended and the host refused nothing, the first page that no image can say decides
 abbrev pub by_page : Option ℕ → List ℕ → Result (List ℕ) SaveError
 by_page (Some page) text = Err (errors.Page (record { 0 = page }))
 by_page None text = text_if_short text
 
+-- where all cores ended, an exit that the host refused comes before the pages
 abbrev pub by_host : Option (ℕ × ℕ) → Option ℕ → List ℕ → Result (List ℕ) SaveError
 by_host (Some kept) page text = Err (errors.Host kept.0 kept.1)
 by_host None page text = by_page page text
 
+-- a core that ended early comes first
 abbrev pub by_core : Option CoreRun → Option (ℕ × ℕ) → Option ℕ → List ℕ → Result (List ℕ) SaveError
 by_core (Some run) refused page text = Err (errors.Core run.core)
 by_core None refused page text = by_host refused page text
@@ -55,4 +59,4 @@ by_core None refused page text = by_host refused page text
 -- Core, Host, Page and Long, in this order; else the text of the saved image
 abbrev pub save_told : Image → List CoreRun → Option (ℕ × ℕ) → State → Result (List ℕ) SaveError
 save_told image cores refused state =
-    by_core (first_core cores) refused (first_page image state) (image_text (saved image state))
+    by_core (first_core cores) refused (first_unsaved_page image state) (image_text (saved image state))

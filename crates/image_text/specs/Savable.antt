@@ -16,6 +16,7 @@ use Rattle.image_text.specs.Saved.{saying, range_at, hw_state, is_idle}
 abbrev pub ready : Row → Row
 ready row = record row { state = Ready }
 
+-- the rows of each core line, which boots make ready, in the order of the lines
 abbrev pub in_core_order : List CoreLine → List Row → List Row
 in_core_order cores rows = flat_map (λ (core : CoreLine). map ready (filter (λ (row : Row). row.apic == core.apic) rows)) cores
 

@@ -7,7 +7,7 @@ use Rattle.svsm_types.specs.declared.owner.Owner.TheVariants.{Guest, Module, Vms
 use Rattle.svsm_types.specs.declared.platform.HwState.{HwState}
 use Rattle.svsm_types.specs.declared.platform.HwState.TheVariants.{Assigned, Valid}
 use Rattle.image_text.specs.Saved.{Saying, ranges_from, fills_from}
-use Rattle.image_text.specs.Written.{joined, head_lines, item_lines}
+use Rattle.image_text.specs.Written.{fields_text, head_lines, item_lines}
 
 abbrev said : Owner → HwState → ℕ → Saying
 said owner state rights = record { owner = owner; state = state; rights = rights }
@@ -47,7 +47,7 @@ image = record {
 
 pub record WorkedSave : Type 0 where
   pub runs : ranges_from 0 pages ≡ ranges
-  pub lines : map joined (head_lines image ++ item_lines image)
+  pub lines : map fields_text (head_lines image ++ item_lines image)
       ≡ codes "svsm-image 1" ∷ codes "regions 0x2" ∷ codes "vmpl 0x2" ∷ codes "features 0x1" ∷ codes "ghcb 0x5"
       ∷ codes "range 0x0 0x5 module valid 0x0" ∷ codes "range 0x5 0x1 module assigned 0x0" ∷ codes "range 0x6 0xa module valid 0x0"
       ∷ codes "range 0x10 0x1 vmsa valid 0x0" ∷ codes "range 0x11 0x1f0 guest valid 0xf0" ∷ codes "range 0x201 0x1ff guest assigned 0x0"

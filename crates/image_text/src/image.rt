@@ -1,14 +1,14 @@
 //! The text of an image.
 ghost use Rattle.std.specs.Prelude.{◌≡◌, ◌++◌, flat_map, map, OnOk, IsTrue};
 ghost use Rattle.std.specs.List.{list_all};
-ghost use Rattle.image_text.specs.Written.{ended, head_lines, item_lines, only_if, split_line, announce_line, image_text, is_addressed, title_line, vmpl_line, value_line};
+ghost use Rattle.image_text.specs.Written.{line_text, head_lines, item_lines, only_if, split_fields, announce_fields, image_text, is_addressed, title_fields, vmpl_fields, value_fields};
 
 use crate::text::{put_newline, put_number, put_text};
 use crate::write::{put_blocks, put_cores, put_fills, put_larges, put_ranges};
 use svsm_types::{Image, NoMemory, Vmpl};
 
 fn put_title(out: &mut Vec<u8>, second: Option<Vmpl>) -> Result<(), NoMemory>
-    ensures { OnOk result (out.new.items ≡ out.old.items ++ ended (title_line second)) }
+    ensures { OnOk result (out.new.items ≡ out.old.items ++ line_text (title_fields second)) }
 {
     match second {
         None => put_text(out, "svsm-image 1\n"),
@@ -17,7 +17,7 @@ fn put_title(out: &mut Vec<u8>, second: Option<Vmpl>) -> Result<(), NoMemory>
 }
 
 fn put_value(out: &mut Vec<u8>, word: &str, value: u64) -> Result<(), NoMemory>
-    ensures { OnOk result (out.new.items ≡ out.old.items ++ ended (value_line word.now value)) }
+    ensures { OnOk result (out.new.items ≡ out.old.items ++ line_text (value_fields word.now value)) }
 {
     put_text(out, word)?;
     put_number(out, value)?;
@@ -25,7 +25,7 @@ fn put_value(out: &mut Vec<u8>, word: &str, value: u64) -> Result<(), NoMemory>
 }
 
 fn put_levels(out: &mut Vec<u8>, first: Vmpl, second: Option<Vmpl>) -> Result<(), NoMemory>
-    ensures { OnOk result (out.new.items ≡ out.old.items ++ ended (vmpl_line first second)) }
+    ensures { OnOk result (out.new.items ≡ out.old.items ++ line_text (vmpl_fields first second)) }
 {
     put_text(out, "vmpl")?;
     put_number(out, u64::from(first.0))?;
@@ -36,7 +36,7 @@ fn put_levels(out: &mut Vec<u8>, first: Vmpl, second: Option<Vmpl>) -> Result<()
 }
 
 fn put_head(out: &mut Vec<u8>, image: &Image) -> Result<(), NoMemory>
-    ensures { OnOk result (out.new.items ≡ out.old.items ++ flat_map ended (head_lines image.now)) }
+    ensures { OnOk result (out.new.items ≡ out.old.items ++ flat_map line_text (head_lines image.now)) }
 {
     put_title(out, image.second)?;
     put_value(out, "regions", image.regions)?;
@@ -46,7 +46,7 @@ fn put_head(out: &mut Vec<u8>, image: &Image) -> Result<(), NoMemory>
 }
 
 fn put_split(out: &mut Vec<u8>, split: bool) -> Result<(), NoMemory>
-    ensures { OnOk result (out.new.items ≡ out.old.items ++ flat_map ended (only_if split split_line)) }
+    ensures { OnOk result (out.new.items ≡ out.old.items ++ flat_map line_text (only_if split split_fields)) }
 {
     if split {
         put_text(out, "pool split\n")?;
@@ -55,7 +55,7 @@ fn put_split(out: &mut Vec<u8>, split: bool) -> Result<(), NoMemory>
 }
 
 fn put_announce(out: &mut Vec<u8>, announce: bool) -> Result<(), NoMemory>
-    ensures { OnOk result (out.new.items ≡ out.old.items ++ flat_map ended (only_if announce announce_line)) }
+    ensures { OnOk result (out.new.items ≡ out.old.items ++ flat_map line_text (only_if announce announce_fields)) }
 {
     if announce {
         put_text(out, "announce\n")?;
@@ -65,7 +65,7 @@ fn put_announce(out: &mut Vec<u8>, announce: bool) -> Result<(), NoMemory>
 
 fn put_items(out: &mut Vec<u8>, image: &Image) -> Result<(), NoMemory>
     requires { IsTrue (list_all is_addressed image.now.cores) }
-    ensures { OnOk result (out.new.items ≡ out.old.items ++ flat_map ended (item_lines image.now)) }
+    ensures { OnOk result (out.new.items ≡ out.old.items ++ flat_map line_text (item_lines image.now)) }
 {
     put_ranges(out, image.ranges.as_slice())?;
     put_larges(out, image.large.as_slice())?;

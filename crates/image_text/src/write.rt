@@ -2,7 +2,7 @@
 ghost use Rattle.std.specs.Prelude.{◌≡◌, ◌*◌, ◌<◌, ◌^◌, ◌∷◌, [], ◌++◌, map, flat_map, OnOk, None, Some};
 ghost use Rattle.std.specs.Prelude.{IsTrue};
 ghost use Rattle.std.specs.List.{list_all};
-ghost use Rattle.image_text.specs.Written.{spaced, ended, range_line, large_line, core_line, block_line, fill_line, level_fields, seat_fields, has_address, is_addressed};
+ghost use Rattle.image_text.specs.Written.{spaced, line_text, range_fields, large_fields, core_fields, block_fields, fill_fields, level_fields, seat_fields, has_address, is_addressed};
 
 use crate::text::{
     owner_field, put_newline, put_number, put_text, put_word, put_words, state_field,
@@ -10,7 +10,7 @@ use crate::text::{
 use svsm_types::{CoreLine, Fill, Gpa, NoMemory, Page, Range, Size, Vmpl};
 
 fn put_range(out: &mut Vec<u8>, range: &Range) -> Result<(), NoMemory>
-    ensures { OnOk result (out.new.items ≡ out.old.items ++ ended (range_line range.now)) }
+    ensures { OnOk result (out.new.items ≡ out.old.items ++ line_text (range_fields range.now)) }
 {
     put_text(out, "range")?;
     put_number(out, range.first.0)?;
@@ -23,7 +23,7 @@ fn put_range(out: &mut Vec<u8>, range: &Range) -> Result<(), NoMemory>
 
 /// Appends the range lines.
 pub fn put_ranges(out: &mut Vec<u8>, ranges: &[Range]) -> Result<(), NoMemory>
-    ensures { OnOk result (out.new.items ≡ out.old.items ++ flat_map ended (map range_line ranges.now)) }
+    ensures { OnOk result (out.new.items ≡ out.old.items ++ flat_map line_text (map range_fields ranges.now)) }
 {
     for range in ranges {
         put_range(out, range)?;
@@ -32,7 +32,7 @@ pub fn put_ranges(out: &mut Vec<u8>, ranges: &[Range]) -> Result<(), NoMemory>
 }
 
 fn put_large(out: &mut Vec<u8>, region: u64) -> Result<(), NoMemory>
-    ensures { OnOk result (out.new.items ≡ out.old.items ++ ended (large_line region)) }
+    ensures { OnOk result (out.new.items ≡ out.old.items ++ line_text (large_fields region)) }
 {
     put_text(out, "large")?;
     put_number(out, region)?;
@@ -41,7 +41,7 @@ fn put_large(out: &mut Vec<u8>, region: u64) -> Result<(), NoMemory>
 
 /// Appends the lines of the regions that are held as 2M.
 pub fn put_larges(out: &mut Vec<u8>, regions: &[u64]) -> Result<(), NoMemory>
-    ensures { OnOk result (out.new.items ≡ out.old.items ++ flat_map ended (map large_line regions.now)) }
+    ensures { OnOk result (out.new.items ≡ out.old.items ++ flat_map line_text (map large_fields regions.now)) }
 {
     for region in regions {
         put_large(out, *region)?;
@@ -50,7 +50,7 @@ pub fn put_larges(out: &mut Vec<u8>, regions: &[u64]) -> Result<(), NoMemory>
 }
 
 fn put_block(out: &mut Vec<u8>, block: &(Page, Size)) -> Result<(), NoMemory>
-    ensures { OnOk result (out.new.items ≡ out.old.items ++ ended (block_line block.now)) }
+    ensures { OnOk result (out.new.items ≡ out.old.items ++ line_text (block_fields block.now)) }
 {
     put_text(out, "block")?;
     put_number(out, block.0.0)?;
@@ -66,7 +66,7 @@ fn put_block(out: &mut Vec<u8>, block: &(Page, Size)) -> Result<(), NoMemory>
 
 /// Appends the block lines.
 pub fn put_blocks(out: &mut Vec<u8>, blocks: &[(Page, Size)]) -> Result<(), NoMemory>
-    ensures { OnOk result (out.new.items ≡ out.old.items ++ flat_map ended (map block_line blocks.now)) }
+    ensures { OnOk result (out.new.items ≡ out.old.items ++ flat_map line_text (map block_fields blocks.now)) }
 {
     for block in blocks {
         put_block(out, block)?;
@@ -101,7 +101,7 @@ fn put_seat(out: &mut Vec<u8>, seat: Option<(Page, Gpa)>) -> Result<(), NoMemory
 
 fn put_core(out: &mut Vec<u8>, second: Option<Vmpl>, core: &CoreLine) -> Result<(), NoMemory>
     requires { IsTrue (is_addressed core.now) }
-    ensures { OnOk result (out.new.items ≡ out.old.items ++ ended (core_line second core.now)) }
+    ensures { OnOk result (out.new.items ≡ out.old.items ++ line_text (core_fields second core.now)) }
 {
     put_text(out, "core")?;
     put_number(out, u64::from(core.apic))?;
@@ -117,7 +117,7 @@ pub fn put_cores(
     cores: &[CoreLine],
 ) -> Result<(), NoMemory>
     requires { IsTrue (list_all is_addressed cores.now) }
-    ensures { OnOk result (out.new.items ≡ out.old.items ++ flat_map ended (map (core_line second) cores.now)) }
+    ensures { OnOk result (out.new.items ≡ out.old.items ++ flat_map line_text (map (core_fields second) cores.now)) }
 {
     for core in cores {
         put_core(out, second, core)?;
@@ -126,7 +126,7 @@ pub fn put_cores(
 }
 
 fn put_fill(out: &mut Vec<u8>, fill: &Fill) -> Result<(), NoMemory>
-    ensures { OnOk result (out.new.items ≡ out.old.items ++ ended (fill_line fill.now)) }
+    ensures { OnOk result (out.new.items ≡ out.old.items ++ line_text (fill_fields fill.now)) }
 {
     put_text(out, "bytes")?;
     put_number(out, fill.gpa.0)?;
@@ -137,7 +137,7 @@ fn put_fill(out: &mut Vec<u8>, fill: &Fill) -> Result<(), NoMemory>
 
 /// Appends the lines of contents.
 pub fn put_fills(out: &mut Vec<u8>, fills: &[Fill]) -> Result<(), NoMemory>
-    ensures { OnOk result (out.new.items ≡ out.old.items ++ flat_map ended (map fill_line fills.now)) }
+    ensures { OnOk result (out.new.items ≡ out.old.items ++ flat_map line_text (map fill_fields fills.now)) }
 {
     for fill in fills {
         put_fill(out, fill)?;

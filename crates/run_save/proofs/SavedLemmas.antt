@@ -1,6 +1,6 @@
 -- What is told of the places of a run is told of its last state.
 use Rattle.std.proofs.Common.{◌≡◌, ◌≤◌, ℕ, List, sym, subst, ◌∙◌, inl, inr, ⊎_elim}
-use Rattle.std.specs.Prelude.{◌⊎◌, Result, Ok, Err, MatchResult}
+use Rattle.std.specs.Prelude.{◌⊎◌, Result, Ok, Err, MatchResult, OnOk}
 use Rattle.svsm_types.specs.declared.image.Image.{Image}
 use Rattle.svsm_steps.specs.declared.entry.Entry.{Entry}
 use Rattle.image_text.specs.declared.error.SaveError.{SaveError}
@@ -30,3 +30,7 @@ pub told_on : {A : Type 0} (view : A → List ℕ) (result : Result A SaveError)
 told_on view (Ok text) one other same told = sym same ∙ told
 told_on view (Err error) one other same told =
     ⊎_elim (λ (memory : error ≡ NoMemory). inl memory) (λ (why : one ≡ Err error). inr (sym same ∙ why)) told
+
+pub fits_on : {A : Type 0} (result : Result A SaveError) (Here There : Type 0) → (Here → There) → OnOk result Here → OnOk result There
+fits_on (Ok text) Here There on fits = on fits
+fits_on (Err error) Here There on fits = tt

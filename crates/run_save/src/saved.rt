@@ -1,7 +1,8 @@
 //! The text of a run's last state, or why none is saved.
-ghost use Rattle.std.specs.Prelude.{◌≡◌, ◌⊎◌, ◌≤◌, Ok, Err, MatchResult};
+ghost use Rattle.std.specs.Prelude.{◌≡◌, ◌⊎◌, ◌≤◌, Ok, Err, MatchResult, OnOk};
 ghost use Rattle.svsm_laws.specs.Consistent.{IsConsistent};
 ghost use Rattle.svsm_waves.specs.InTurn.{AreBegun, StandFor};
+ghost use Rattle.image_text.specs.Fits.{FitsIn64Bits};
 ghost use Rattle.image_text.specs.Refused.{save_told};
 ghost use Rattle.save_laws.specs.Saved.{last_state};
 
@@ -18,10 +19,11 @@ pub fn save_run(alloc: Global, image: &Image, run: &ImageRun) -> Result<Vec<u8>,
     requires begun { AreBegun image.now run.now.places.items }
     requires stand { StandFor image.now run.now.trace run.now.places.items }
     requires consistent { IsConsistent image.now.regions (last_state image.now run.now.trace) }
-    ensures { MatchResult result
+    ensures told { MatchResult result
         (λ text. save_told image.now run.now.cores run.now.refused (last_state image.now run.now.trace) ≡ Ok text.items)
         (λ error. (error ≡ SaveError.NoMemory)
         ⊎ (save_told image.now run.now.cores run.now.refused (last_state image.now run.now.trace) ≡ Err error)) }
+    ensures fits { OnOk result (FitsIn64Bits image.now (last_state image.now run.now.trace)) }
 {
     save(alloc, image, run.cores.as_slice(), &run.places, run.refused)
 }

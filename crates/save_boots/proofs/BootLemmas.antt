@@ -18,7 +18,7 @@ use Rattle.boot_core.specs.Sim.{sim_answer, host_of}
 use Rattle.save_laws.proofs.SavedRuns.{saved_runs_come_back}
 use Rattle.save_laws.specs.Saved.{last_state}
 use Rattle.image_text.specs.Saved.{saved}
-use Rattle.save_boots.specs.Boots.{QuietImagesBoot, SavedRunsBoot, IsBootable}
+use Rattle.save_boots.specs.Boots.{QuietImagesBoot, SavedRunsBoot, BootsAgain}
 
 -- WHAT IS SENT AND ANSWERED
 

@@ -1,1 +1,1 @@
-mod BootLemmas
+pub mod BootLemmas

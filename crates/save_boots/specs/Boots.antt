@@ -8,7 +8,7 @@ use Rattle.svsm_steps.specs.Requests.{AreScripts}
 use Rattle.svsm_steps.specs.Sound.{IsSound}
 use Rattle.svsm_calls.specs.Run.{IsRun}
 use Rattle.image_grammar.specs.Image.{image_of}
-use Rattle.image_text.specs.Fits.{Fits}
+use Rattle.image_text.specs.Fits.{FitsIn64Bits}
 use Rattle.image_text.specs.Refused.{save_told}
 use Rattle.save_laws.specs.Saved.{last_state}
 use Rattle.boot_core.specs.Boots.{Boots}
@@ -18,7 +18,7 @@ abbrev pub QuietImagesBoot : Type 0
 QuietImagesBoot = (image : Image) → IsSound image → image.accepts ≡ [] → image.host ≡ [] → Boots image
 
 -- a text is read as an image that boots
-pub record IsBootable (text : List ℕ) : Type 0 where
+pub record BootsAgain (text : List ℕ) : Type 0 where
   pub image : Image
   pub read : image_of text ≡ Ok image
   pub boots : Boots image
@@ -27,5 +27,5 @@ pub record IsBootable (text : List ℕ) : Type 0 where
 abbrev pub SavedRunsBoot : Type 0
 SavedRunsBoot =
     (image : Image) (scripts : List (List Request)) (entries : List Entry) (cores : List CoreRun) (refused : Option (ℕ × ℕ)) (text : List ℕ)
-    → IsSound image → AreScripts scripts → IsRun image scripts entries cores → Fits image (last_state image entries)
-    → save_told image cores refused (last_state image entries) ≡ Ok text → IsBootable text
+    → IsSound image → AreScripts scripts → IsRun image scripts entries cores → FitsIn64Bits image (last_state image entries)
+    → save_told image cores refused (last_state image entries) ≡ Ok text → BootsAgain text

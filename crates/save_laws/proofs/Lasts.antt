@@ -2,7 +2,7 @@
 use Rattle.std.proofs.Common.{◌≡◌, ◌≢◌, ℕ, zero, suc, ◌+◌, ◌*◌, ◌/◌, ◌%◌, ◌^◌, ◌<◌, ◌≤◌, Bool, true, false, not, List, [], ◌∷◌, ◌++◌, get_or, length, append-nil, refl, sym, ap, ◌∙◌, subst, arith, Option, None, Some, inl, inr, ⊎_elim, IsTrue}
 use Rattle.std.specs.Prelude.{if◌then◌else◌, ◌==◌, ◌&&◌, ◌||◌, nat_lt, ◌⊎◌, Contains, find, map, count_by, slice_index_or}
 use Rattle.std.specs.List.{list_all, list_any, range_with_len}
-use Rattle.std.proofs.lemmas.Bool.{and_parts, eq-eqb, eqb-true, ne_eqb, cases_Bool, ltb-true, lt-ltb}
+use Rattle.std.proofs.lemmas.Bool.{and_parts, eq-eqb, eqb-true, ne_eqb, cases_Bool, ltb-true, ltb-false, lt-ltb}
 use Rattle.svsm_types.specs.Pages.{page_of, region_of, index_of, is_multiple}
 use Rattle.svsm_types.specs.Hardware.{blank, no_right, right_of, same_truth, fits}
 use Rattle.svsm_types.specs.declared.image.Image.{Image}
@@ -35,7 +35,7 @@ use Rattle.svsm_steps.specs.Pool.{same_size}
 use Rattle.svsm_steps.specs.Registry.{of_page, same_row_state}
 use Rattle.svsm_steps.specs.Requests.{AreScripts}
 use Rattle.svsm_steps.specs.Sound.{IsSound, is_sound_seat, is_sound_block, has_lawful_rights, is_valid_where_held}
-use Rattle.svsm_steps.specs.State.{State, RegionState, Block, page_at, owner_at, recorded_at}
+use Rattle.svsm_steps.specs.State.{State, RegionState, Block, page_at, owner_at, recorded_at, word_at}
 use Rattle.svsm_steps.specs.Words.{as_bit}
 use Rattle.svsm_calls.specs.Run.{IsRun}
 use Rattle.svsm_laws.specs.Closed.{AllBare}
@@ -64,9 +64,9 @@ use Rattle.svsm_run_laws.proofs.EndRows.{ends_still, outside_guest}
 use Rattle.svsm_run_laws.proofs.Every.{every_run, rows_apart}
 use Rattle.svsm_run_laws.proofs.Formed.{runs_are_formed, runs_stay_consistent}
 use Rattle.svsm_run_laws.proofs.Lists.{contains_cases}
-use Rattle.image_text.specs.Fits.{Fits}
+use Rattle.image_text.specs.Fits.{FitsIn64Bits}
 use Rattle.image_text.specs.PageForm.{IsTidyPage}
-use Rattle.image_text.specs.Refused.{ended_early, first_core, first_page, is_unsaved}
+use Rattle.image_text.specs.Refused.{ended_early, first_core, first_unsaved_page, is_unsaved}
 use Rattle.image_text.specs.Savable.{IsSavable}
 use Rattle.image_text.specs.Saved.{Saying, saying, range_at, hw_state, rights_of, saved, saved_block, is_idle}
 use Rattle.image_text.specs.SavedSound.{IsSayable}
@@ -286,8 +286,8 @@ index_low : (page : ℕ) → index_of page < 512
 index_low page = omega arith
 
 module _ (image : Image) (scripts : List (List Request)) (entries : List Entry) (cores : List CoreRun) (sound : IsSound image) (scripted : AreScripts scripts)
-    (run : IsRun image scripts entries cores) (fit : Fits image (last_state image entries)) (none_core : first_core cores ≡ None)
-    (none_page : first_page image (last_state image entries) ≡ None) where
+    (run : IsRun image scripts entries cores) (fit : FitsIn64Bits image (last_state image entries)) (none_core : first_core cores ≡ None)
+    (none_page : first_unsaved_page image (last_state image entries) ≡ None) where
   abbrev last : State
   last = last_state image entries
 
@@ -460,6 +460,14 @@ module _ (image : Image) (scripts : List (List Request)) (entries : List Entry) 
   page_lawful false page e low =
       (tidy_pages_are_said image last page (Rattle.std.proofs.lemmas.Bool.eqb-false page image.ghcb.0 e) (tidy_page page low)).lawful
 
+  word_fits : (number : ℕ) (b : Bool) → nat_lt number (512 * (512 * image.regions)) ≡ b → word_at (8 * number) last < 2 ^ 64
+  word_fits number true low = fit.words number (ltb-true number (512 * (512 * image.regions)) low)
+  word_fits number false high =
+      let over : 512 * (512 * image.regions) ≤ number = ltb-false number (512 * (512 * image.regions)) high in
+      let none : word_at (8 * number) last ≡ 0 =
+      ap (λ (r : RegionState). r.hw.words (8 * number)) (outside (region_of (page_of (8 * number))) (omega (arith, over))) in
+      omega (arith, none)
+
   pub sayable : IsSayable image last
   sayable = record {
     sound = sound;
@@ -474,7 +482,7 @@ module _ (image : Image) (scripts : List (List Request)) (entries : List Entry) 
         ∙ ap (λ (k : ℕ). get_or (last.regions k).hw.pages (index_of other) blank) same;
     no_large_vmsa = λ page large e. tidy.small (region_of page) large (index_of page) (index_low page) e;
     ghcb_owner = ghcb_apart.0;
-    words = fit.words;
+    words = λ number. word_fits number (nat_lt number (512 * (512 * image.regions))) refl;
     seats = seats_sound image.regions last.rows consistent.mapped.1;
     row_pages = apart.pages;
     of_cores = lines;

@@ -6,7 +6,7 @@ use Rattle.svsm_types.specs.declared.address.Page.{Page}
 use Rattle.svsm_steps.specs.declared.outcome.CoreRun.{CoreRun}
 use Rattle.svsm_steps.specs.State.{State}
 use Rattle.image_grammar.specs.Image.{image_of}
-use Rattle.image_text.specs.Refused.{longest, first_core, first_page, text_if_short, by_page, by_host, by_core, save_told}
+use Rattle.image_text.specs.Refused.{longest, first_core, first_unsaved_page, text_if_short, by_page, by_host, by_core, save_told}
 use Rattle.image_text.specs.Saved.{saved}
 use Rattle.image_text.specs.Written.{image_text}
 use Rattle.image_text.specs.declared.error.SaveError.{SaveError}
@@ -37,7 +37,7 @@ told_by None None None text given h = record { core_none = refl; page_none = ref
 pub saved_runs_come_back : SavedRunsComeBack
 saved_runs_come_back image scripts entries cores refused text sound scripted run fit told =
     let state : State = last_state image entries in
-    let why = told_by (first_core cores) refused (first_page image state) (image_text (saved image state)) text told in
+    let why = told_by (first_core cores) refused (first_unsaved_page image state) (image_text (saved image state)) text told in
     let say = sayable image scripts entries cores sound scripted run fit why.core_none why.page_none in
     let writable = saves_readable image state say in
     record {

@@ -11,7 +11,7 @@ use Rattle.svsm_steps.specs.Sound.{IsSound}
 use Rattle.svsm_steps.specs.State.{State}
 use Rattle.svsm_calls.specs.Run.{IsRun}
 use Rattle.image_grammar.specs.Image.{image_of}
-use Rattle.image_text.specs.Fits.{Fits}
+use Rattle.image_text.specs.Fits.{FitsIn64Bits}
 use Rattle.image_text.specs.Refused.{save_told}
 use Rattle.image_text.specs.Savable.{rebooted}
 use Rattle.image_text.specs.Saved.{saved}
@@ -31,6 +31,6 @@ pub record ComesBack (image : Image) (state : State) (text : List ℕ) : Type 0 
 abbrev pub SavedRunsComeBack : Type 0
 SavedRunsComeBack =
     (image : Image) (scripts : List (List Request)) (entries : List Entry) (cores : List CoreRun) (refused : Option (ℕ × ℕ)) (text : List ℕ)
-    → IsSound image → AreScripts scripts → IsRun image scripts entries cores → Fits image (last_state image entries)
+    → IsSound image → AreScripts scripts → IsRun image scripts entries cores → FitsIn64Bits image (last_state image entries)
     → save_told image cores refused (last_state image entries) ≡ Ok text
     → ComesBack image (last_state image entries) text

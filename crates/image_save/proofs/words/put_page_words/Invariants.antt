@@ -1,4 +1,4 @@
-use Rattle.std.proofs.Common.{◌≡◌, ◌+◌, ◌*◌, map}
+use Rattle.std.proofs.Common.{◌≡◌, ℕ, ◌+◌, ◌*◌, ◌<◌, ◌^◌, map}
 use Rattle.std.specs.List.{range_with_len}
 use Rattle.rmp_table.specs.PackedKnown.{packed_known}
 use Rattle.image_text.specs.Collected.{words_put, EndBy}
@@ -9,3 +9,4 @@ invariant-words l =
     (l.fills.items ≡ words_put l.fn.fills.items (512 * l.page.0)
     (map (λ number. (packed_known l.region.scene).hw.words (8 * number)) (range_with_len (512 * l.page.0) l.column)))
     × EndBy (512 * l.page.0 + l.column) l.fills.items
+    × ((column : ℕ) → column < l.column → (packed_known l.region.scene).hw.words (8 * (512 * l.page.0 + column)) < 2 ^ 64)

@@ -11,7 +11,7 @@ returns-in-Ok-clause-report g c =
     saved_so (g.S.Shelf.seen c.args.shelf.now).told (save_seen c.args.words.now) (run_seen c.in_ok-run.run') c.in_ok-files.files.image c.in_ok-files.files.scripts
     c.as_slice-scripts.result.now c.in_ok-whole.whole.trace c.in_ok-whole.whole.cores c.in_ok-whole.whole.exits c.in_ok-whole.whole.refused c.in-Ok.text.items
     c.in_ok-run.ensures c.in_ok-files.ensures.files c.in_ok-whole.ensures.boots c.as_slice-scripts.ensures c.in_ok-whole.ensures.run c.in_ok-whole.ensures.safe
-    c.in-Ok.ensures
+    c.in-Ok.ensures.told c.in_ok-files.ensures.sound c.in_ok-files.ensures.formed c.in-Ok.ensures.fits
 
 pub returns-in-Ok-clause-laws : goal.returns-in-Ok-clause-laws
 returns-in-Ok-clause-laws g c =
@@ -25,9 +25,16 @@ save_run-requires-clause-consistent g c =
     ends_consistent c.in_ok-files.files.image c.in_ok-files.files.scripts c.as_slice-scripts.result.now c.in_ok-whole.whole.trace c.in_ok-whole.whole.cores
     c.in_ok-whole.whole.exits c.in_ok-whole.whole.refused c.in_ok-files.ensures.sound c.in_ok-files.ensures.formed c.as_slice-scripts.ensures c.in_ok-whole.ensures.run
 
-pub returns-clause-stop : goal.returns-clause-stop
-returns-clause-stop g c =
-    unsaved_so (g.S.Shelf.seen c.args.shelf.now) (g.S.Shelf.seen c.load_files.new.shelf) (save_seen c.args.words.now) (run_seen c.in_ok-run.run')
-    c.in_ok-files.files.image c.in_ok-files.files.scripts c.as_slice-scripts.result.now c.in_ok-whole.whole.trace c.in_ok-whole.whole.cores c.in_ok-whole.whole.exits
-    c.in_ok-whole.whole.refused c.in-Err.error c.from.result c.in_ok-run.ensures c.in_ok-files.ensures.calm c.in_ok-files.ensures.files
-    c.in_ok-whole.ensures.boots c.as_slice-scripts.ensures c.in_ok-whole.ensures.run c.in-Err.ensures c.from.ensures
+pub returns-clause-unsaved : goal.returns-clause-unsaved
+returns-clause-unsaved g c =
+    unsaved_so (g.S.Shelf.seen c.args.shelf.now).told (save_seen c.args.words.now) (run_seen c.in_ok-run.run') c.in_ok-files.files.image c.in_ok-files.files.scripts
+    c.as_slice-scripts.result.now c.in_ok-whole.whole.trace c.in_ok-whole.whole.cores c.in_ok-whole.whole.exits c.in_ok-whole.whole.refused c.in-Err.error
+    c.in_ok-run.ensures c.in_ok-files.ensures.files c.in_ok-whole.ensures.boots c.as_slice-scripts.ensures c.in_ok-whole.ensures.run c.in_ok-whole.ensures.safe
+    ? c.in-Err.ensures.told
+
+pub returns-clause-laws : goal.returns-clause-laws
+returns-clause-laws g c =
+    keeps_laws (g.S.Shelf.seen c.args.shelf.now).told (of_saved (save_seen c.args.words.now)) c.in_ok-files.files.image c.in_ok-files.files.scripts
+    c.as_slice-scripts.result.now c.in_ok-whole.whole.trace c.in_ok-whole.whole.trace c.in_ok-whole.whole.cores c.in_ok-whole.whole.exits c.in_ok-whole.whole.refused
+    (subst (λ (one : Run). AreFiles (g.S.Shelf.seen c.args.shelf.now).told one c.in_ok-files.files.image c.in_ok-files.files.scripts) c.in_ok-run.ensures c.in_ok-files.ensures.files)
+    c.in_ok-files.ensures.sound c.in_ok-files.ensures.formed c.as_slice-scripts.ensures c.in_ok-whole.ensures.run refl
