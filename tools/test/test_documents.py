@@ -45,6 +45,12 @@ class Figures(unittest.TestCase):
         self.assertEqual(list(documents.wrong_rings('| it | 15 | 1,061 | 4 |\n', [(15, 1061, 5)])), ['ring 1 is [15, 1061, 4], and has 15 definitions, 1061 lines, 5 files'])
 
 
+class Examples(unittest.TestCase):
+    def test_the_worked_example_is_the_stored_one(self):
+        self.assertEqual(list(documents.wrong_example('It prints\n\n    svsm-run 1\n    end\n', ['svsm-run 1', 'end'])), [])
+        self.assertEqual(len(list(documents.wrong_example('It prints nothing.', ['svsm-run 1', 'end']))), 1)
+
+
 class Names(unittest.TestCase):
     def setUp(self):
         self.kept, self.folder = documents.TOP, tempfile.TemporaryDirectory()

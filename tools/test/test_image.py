@@ -83,6 +83,8 @@ class Explained(unittest.TestCase):
 
     def test_another_file_is_noticed(self):
         self.assertIn('is it the one that was run?', self.explain('svsm_run: image line 0x2 range', BASE))
+        record = b'\4' + bytes(7) + b'\x08' + bytes(15) + b'\2' + bytes(23)
+        self.assertIn('its VMPL is 2, which is right: is it the script that was run?', self.explain('svsm_run: script 0x0 at 0x0 vmpl', BASE, record))
 
     def test_scripts_boots_and_the_rest(self):
         self.assertIn('its address is 0x9, which is 0x1 past a multiple of 8', self.explain(
