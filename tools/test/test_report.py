@@ -15,12 +15,18 @@ def written(text):
 
 
 class Shown(unittest.TestCase):
+    def test_operands_and_answers_have_names(self):
+        words = [report.in_words(line)[2] for line in ('0x1 0x0 0x2 pop 0x0 -> block 0x200 0x1ff', '0x2 0x0 0x1 release 0x2 0x200 0x1 -> fault 0x3',
+                                                       '0x3 0x0 0x3 retire 0x10 -> running', '0x4 0x0 0x0 load 0x2 0x21000 -> word 0x1')]
+        self.assertEqual(words, ['pool: pop 4K: page 0x200, blocks left 0x1ff', 'give back 0x200 2M: fault; micro-operations before it 0x3',
+                                 'row: retire VMSA page 0x10: running', 'load word 0x21000: word 0x1'])
+
     def test_steps_stand_in_the_column_of_their_core(self):
         status, out, _ = ran('report', 'steps', example('new_processor.report'))
         lines = out.split('\n')
         self.assertEqual((status, lines[0].split()), (0, ['ticket', 'core', '0x0', 'core', '0x1']))
         self.assertEqual(lines[2], '0x1      guest writes 0x300c8 0x20000')
-        self.assertTrue(lines[16].startswith('0xf       ') and lines[16].endswith('enter guest 0x1: seen 0x30 0x31000'))
+        self.assertTrue(lines[16].startswith('0xf       ') and lines[16].endswith('enter guest APIC id 0x1: VMSA page 0x30, calling area 0x31000'))
 
     def test_outcomes_have_the_names_of_codes(self):
         status, out, _ = ran('report', 'outcomes', example('new_processor.report'), example('new_processor.script'))
