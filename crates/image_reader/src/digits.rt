@@ -25,7 +25,7 @@ fn words_read(alloc: Global, digits: &[u8]) -> Result<Option<Vec<u64>>, NoMemory
         let Some(word) = word_of(first) else {
             return Ok(None);
         };
-        words.push(word)?;
+        words.push_reserved(word);
         rest = after;
     }
     Ok(Some(words))

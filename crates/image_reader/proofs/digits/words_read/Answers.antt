@@ -11,9 +11,10 @@ words-preserved c =
     let is : word_in (take 16 rest) ≡ Some c.in-Some.word = sym (c.word_of.ensures ∙ ap word_in c.split_at.ensures.front) ∙ c.in-Some.is in
     record {
       whole = omega (arith, c.words.invariant.whole, ap length c.split_at.ensures.back, length-drop 16 rest, c.words-test.true);
+      room = omega (arith, c.words.invariant.room, c.push_reserved.ensures.len, c.push_reserved.ensures.capacity, ap length c.split_at.ensures.back, length-drop 16 rest, c.words-test.true);
       read = c.words.invariant.read ∙ word_read before rest c.in-Some.word c.words-test.true is
           ∙ ap (λ (l : List ℕ). behind (before ++ c.in-Some.word ∷ []) (words_told (length l / 16) l)) (sym c.split_at.ensures.back)
-          ∙ ap (λ (items : List ℕ). behind items (words_told (length after / 16) after)) (sym c.in_ok-push.ensures.items);
+          ∙ ap (λ (items : List ℕ). behind items (words_told (length after / 16) after)) (sym c.push_reserved.ensures.items);
     }
 
 pub returns-in_default : goal.returns-in_default
