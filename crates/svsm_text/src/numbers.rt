@@ -1,12 +1,43 @@
 //! Numbers of a text.
-ghost use Rattle.std.specs.Prelude.{◌≡◌, ◌+◌, ◌<◌, ◌≤◌, ◌++◌, Some, None, false, length, drop, if◌then◌else◌, OnErr, OnOk};
+ghost use Rattle.std.specs.Prelude.{◌≡◌, ◌+◌, ◌<◌, ◌≤◌, ◌++◌, Some, None, false, length, drop, if◌then◌else◌, OnErr, OnOk, SomeIff};
 ghost use Rattle.std.specs.List.{list_all};
-ghost use Rattle.std.specs.Char.{is_digit};
+ghost use Rattle.std.specs.Char.{digit_value, is_digit};
 ghost use Rattle.std.specs.Fmt.{digit_glyph, digits};
 ghost use Rattle.std.specs.Str.Parse.{digits_value};
 ghost use Rattle.svsm_text.specs.Numbers.{number_in, number};
 
 use svsm_types::NoMemory;
+
+// The value of each byte as a hex digit, or 255.
+static VALUES: [u8; 256] = [
+    255, 255, 255, 255, 255, 255, 255, 255, 255, 255, 255, 255, 255, 255, 255, 255, 255, 255, 255,
+    255, 255, 255, 255, 255, 255, 255, 255, 255, 255, 255, 255, 255, 255, 255, 255, 255, 255, 255,
+    255, 255, 255, 255, 255, 255, 255, 255, 255, 255, 0, 1, 2, 3, 4, 5, 6, 7, 8, 9, 255, 255, 255,
+    255, 255, 255, 255, 10, 11, 12, 13, 14, 15, 255, 255, 255, 255, 255, 255, 255, 255, 255, 255,
+    255, 255, 255, 255, 255, 255, 255, 255, 255, 255, 255, 255, 255, 255, 255, 255, 10, 11, 12, 13,
+    14, 15, 255, 255, 255, 255, 255, 255, 255, 255, 255, 255, 255, 255, 255, 255, 255, 255, 255,
+    255, 255, 255, 255, 255, 255, 255, 255, 255, 255, 255, 255, 255, 255, 255, 255, 255, 255, 255,
+    255, 255, 255, 255, 255, 255, 255, 255, 255, 255, 255, 255, 255, 255, 255, 255, 255, 255, 255,
+    255, 255, 255, 255, 255, 255, 255, 255, 255, 255, 255, 255, 255, 255, 255, 255, 255, 255, 255,
+    255, 255, 255, 255, 255, 255, 255, 255, 255, 255, 255, 255, 255, 255, 255, 255, 255, 255, 255,
+    255, 255, 255, 255, 255, 255, 255, 255, 255, 255, 255, 255, 255, 255, 255, 255, 255, 255, 255,
+    255, 255, 255, 255, 255, 255, 255, 255, 255, 255, 255, 255, 255, 255, 255, 255, 255, 255, 255,
+    255, 255, 255, 255, 255, 255, 255, 255, 255, 255, 255, 255, 255, 255, 255, 255, 255, 255, 255,
+    255, 255, 255,
+];
+
+// The value of a hex digit.
+#[inline(always)]
+fn digit_of(byte: u8) -> Option<u64>
+    ensures { SomeIff result (digit_value byte < 16) (digit_value byte) }
+{
+    let value = VALUES[byte as usize];
+    if value < 16 {
+        Some(u64::from(value))
+    } else {
+        None
+    }
+}
 
 // The number that at most 16 hex digits write. None where a byte is no digit.
 fn value_of(digits: &[u8]) -> Option<u64>
@@ -15,8 +46,8 @@ fn value_of(digits: &[u8]) -> Option<u64>
 {
     let mut value = 0u64;
     for digit in digits {
-        let digit = char::from(*digit).to_digit(16)?;
-        value = value * 16 + u64::from(digit);
+        let digit = digit_of(*digit)?;
+        value = value * 16 + digit;
     }
     Some(value)
 }
