@@ -30,7 +30,7 @@ returns-clause-unsaved g c =
     unsaved_so (g.S.Shelf.seen c.args.shelf.now).told (save_seen c.args.words.now) (run_seen c.in_ok-run.run') c.in_ok-files.files.image c.in_ok-files.files.scripts
     c.as_slice-scripts.result.now c.in_ok-whole.whole.trace c.in_ok-whole.whole.cores c.in_ok-whole.whole.exits c.in_ok-whole.whole.refused c.in-Err.error
     c.in_ok-run.ensures c.in_ok-files.ensures.files c.in_ok-whole.ensures.boots c.as_slice-scripts.ensures c.in_ok-whole.ensures.run c.in_ok-whole.ensures.safe
-    ? c.in-Err.ensures.told
+    c.in_default.not-NoMemory c.in-Err.ensures.told
 
 pub returns-clause-laws : goal.returns-clause-laws
 returns-clause-laws g c =
