@@ -12,8 +12,8 @@ use Rattle.svsm_calls.specs.Run.{IsRun}
 use Rattle.svsm_run_laws.proofs.Announced.{host_is_told_nothing}
 use Rattle.ap_start.specs.declared.exits.ApExit.{ApExit}
 use Rattle.ap_start.specs.Exits.{taken, refused_exit}
-use Rattle.ap_start.specs.Text.{ap_text}
-use Rattle.run_core_top.specs.Headline.{status_by, told_lines}
+use Rattle.ap_start.specs.Text.{ap_text, told_lines}
+use Rattle.run_core_top.specs.Headline.{status_by}
 
 -- an exit was refused where there is a refusal
 some_kept : (refused : Option ℕ) (lines : ℕ → ℕ × ℕ) → is_some (option_map lines refused) ≡ is_some refused

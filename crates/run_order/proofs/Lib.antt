@@ -1,0 +1,5 @@
+pub mod StepLemmas
+pub mod FindLemmas
+pub mod LeadLemmas
+pub mod ReadLemmas
+pub mod CoreLemmas
