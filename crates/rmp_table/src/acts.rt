@@ -24,6 +24,7 @@ fn code_at(page: &PageState, on: bool) -> HwCode
     }
 }
 
+#[inline(always)]
 fn adjusted(page: PageState, vmpl: Vmpl, right: Perms, vmsa: bool) -> PageState
     requires vmpl { (1 ≤ vmpl.0) × (vmpl.0 ≤ 3) }
     requires right { right.0 ≤ 15 }
@@ -59,6 +60,7 @@ fn changes(code: HwCode) -> bool
 
 impl PackedRmp {
     // What PVALIDATE answers.
+    #[inline(always)]
     fn code(&self, page: Page, size: Size, on: bool) -> HwCode
         ensures { result ≡ pvalidate_answer size page.0 on (packed_hw self.now) }
     {
@@ -69,6 +71,7 @@ impl PackedRmp {
     }
 
     // What it does to the pages. A 2M entry is split by an operation in 4K, whatever the answer.
+    #[inline(always)]
     fn set_validity(&mut self, page: Page, size: Size, on: bool, code: HwCode)
         requires { code ≡ pvalidate_answer size page.0 on (packed_hw self.old) }
         ensures { packed_known self.new ≡ record (packed_known self.old)
@@ -84,6 +87,7 @@ impl PackedRmp {
     }
 
     // What RMPADJUST does where it does not fault.
+    #[inline(always)]
     fn set_rights(&mut self, page: Page, size: Size, vmpl: Vmpl, right: Perms, vmsa: bool)
         requires fits { fits size (packed_hw self.old).large ≡ true }
         requires vmpl { (1 ≤ vmpl.0) × (vmpl.0 ≤ 3) }
@@ -106,6 +110,7 @@ impl Rmp for PackedRmp {
         self.head.is_some()
     }
 
+    #[inline(always)]
     fn state(&self, page: Page) -> PageState {
         self.at(index_of(page))
     }
@@ -114,6 +119,7 @@ impl Rmp for PackedRmp {
         self.words.room(page)
     }
 
+    #[inline(always)]
     #[tactic(auto, unfolding(svsm_types::specs::Hardware::word_faults))]
     fn read(&mut self, gpa: Gpa) -> Result<u64, Faulted> {
         let faults = !self.is_usable_at(index_of(page_of(gpa)));
@@ -121,6 +127,7 @@ impl Rmp for PackedRmp {
         Ok(self.words.word(gpa))
     }
 
+    #[inline(always)]
     #[tactic(auto, unfolding(svsm_types::specs::Hardware::word_faults))]
     fn write(&mut self, gpa: Gpa, word: u64) -> Result<(), Faulted> {
         let faults = !self.is_usable_at(index_of(page_of(gpa)));
@@ -129,6 +136,7 @@ impl Rmp for PackedRmp {
         Ok(())
     }
 
+    #[inline(always)]
     fn clear(&mut self, page: Page, size: Size) -> Result<(), Faulted> {
         let faults = self.clear_faults(page, size);
         self.begin(faults)?;
@@ -136,6 +144,7 @@ impl Rmp for PackedRmp {
         Ok(())
     }
 
+    #[inline(always)]
     fn pvalidate(&mut self, page: Page, size: Size, on: bool) -> Result<HwCode, Faulted> {
         let code = self.code(page, size, on);
         self.begin(false)?;
@@ -143,6 +152,7 @@ impl Rmp for PackedRmp {
         Ok(code)
     }
 
+    #[inline(always)]
     fn rmpadjust(
         &mut self,
         page: Page,
