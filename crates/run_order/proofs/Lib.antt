@@ -3,3 +3,17 @@ pub mod FindLemmas
 pub mod LeadLemmas
 pub mod ReadLemmas
 pub mod CoreLemmas
+pub mod PlaceLemmas
+pub mod MemberLemmas
+pub mod CountLemmas
+pub mod ToldLemmas
+pub mod PutLemmas
+pub mod RowLemmas
+pub mod AnswerLemmas
+pub mod BehindLemmas
+pub mod StandLemmas
+pub mod LeftLemmas
+pub mod MemberPlaces
+pub mod EnterLemmas
+pub mod CoresLemmas
+pub mod WaveLemmas

@@ -1,3 +1,9 @@
 pub mod Steps
 pub mod Finds
 pub mod Reads
+pub mod Wave
+pub mod WaveReads
+pub mod Orders
+pub mod Told
+pub mod Registered
+pub mod Behind

@@ -29,7 +29,8 @@ pub struct CoreEntries<'a> {
     pub entries: &'a [Entry],
 }
 
-fn same_step(a: &Step, b: &Step) -> bool
+/// Whether two steps are the same.
+pub fn same_step(a: &Step, b: &Step) -> bool
     ensures { IsTrue result ↔ (a.now ≡ b.now) }
 {
     *a == *b
