@@ -1,0 +1,5 @@
+pub mod AgreeLemmas
+pub mod CheckLemmas
+pub mod OneReason
+pub mod OneWaves
+pub mod OneAnswer
