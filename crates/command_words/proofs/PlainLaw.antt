@@ -9,7 +9,7 @@ use Rattle.clap.specs.declared.parser.matches.ArgMatches.{ArgMatches}
 use Rattle.clap.specs.Takes.{takes, level_passes, settle_passes, turn_passes, is_valid, is_given, entered_passes}
 use Rattle.clap.proofs.OnLiterals.{clap_on_literals}
 use Rattle.command_words.specs.App.{words_app}
-use Rattle.command_words.specs.Words.{flags, others, command_by, gen_of, gen_in, save_of, save_in, IsPlain, IsOfForm, plain_words}
+use Rattle.command_words.specs.Words.{flags, others, command_by, gen_of, gen_in, save_of, save_in, audit_of, audit_in, IsPlain, IsOfForm, plain_words}
 use Rattle.command_words.proofs.RowLemmas.{row_at, same_text}
 use Rattle.command_words.proofs.StepLemmas.{both_hold}
 use Rattle.command_words.proofs.AboveLaw.{top_rules, names_above, met, stop, taken, simple}
@@ -66,6 +66,10 @@ save_command : IsCommand (codes "save")
 unfolding clap_on_literals
 save_command = record { walks = refl; turns = refl; enters = λ words. refl; rows = λ words. refl }
 
+audit_command : IsCommand (codes "audit")
+unfolding clap_on_literals
+audit_command = record { walks = refl; turns = refl; enters = λ words. refl; rows = λ words. refl }
+
 -- WORDS THAT ARE ADMITTED
 
 -- there is no flag, and there are words
@@ -88,6 +92,11 @@ save_form : IsPlainForm save_of
 save_form [] [] is = absurd cc
 save_form [] (first ∷ rest) is = record { first = first; rest = rest; flags = refl; others = refl }
 save_form (flag ∷ fs) os is = absurd cc
+
+audit_form : IsPlainForm audit_of
+audit_form [] [] is = absurd cc
+audit_form [] (first ∷ rest) is = record { first = first; rest = rest; flags = refl; others = refl }
+audit_form (flag ∷ fs) os is = absurd cc
 
 -- what is known of the words behind a name
 pub record PlainWords (name : Text) (words : List Text) : Type 0 where
@@ -139,11 +148,13 @@ plain_found name words command p =
 
 plain_some : (words : List Text) → IsPlain words → takes words_app words ≡ true
 plain_some words (inl gen) = plain_taken (codes "gen") words gen_command (behind (codes "gen") gen_of words gen_form gen)
-plain_some words (inr save) = plain_taken (codes "save") words save_command (behind (codes "save") save_of words save_form save)
+plain_some words (inr (inl save)) = plain_taken (codes "save") words save_command (behind (codes "save") save_of words save_form save)
+plain_some words (inr (inr audit)) = plain_taken (codes "audit") words audit_command (behind (codes "audit") audit_of words audit_form audit)
 
 found_words : (words : List Text) → IsPlain words → PlainFound words
 found_words words (inl gen) = plain_found (codes "gen") words gen_command (behind (codes "gen") gen_of words gen_form gen)
-found_words words (inr save) = plain_found (codes "save") words save_command (behind (codes "save") save_of words save_form save)
+found_words words (inr (inl save)) = plain_found (codes "save") words save_command (behind (codes "save") save_of words save_form save)
+found_words words (inr (inr audit)) = plain_found (codes "audit") words audit_command (behind (codes "audit") audit_of words audit_form audit)
 
 -- what a parse of these words gives
 pub plain_matches : (words : List Text) (m : ArgMatches) → IsPlain words → HasMatchesOf words_app words m
@@ -170,6 +181,9 @@ gen_by words some = form_at (codes "gen") gen_of words (behind (codes "gen") gen
 pub save_by : (words : List Text) → IsSome (save_in words) → save_in words ≡ save_of [] (plain_words words)
 save_by words some = form_at (codes "save") save_of words (behind (codes "save") save_of words save_form some) refl
 
+pub audit_by : (words : List Text) → IsSome (audit_in words) → audit_in words ≡ audit_of [] (plain_words words)
+audit_by words some = form_at (codes "audit") audit_of words (behind (codes "audit") audit_of words audit_form some) refl
+
 -- a form that is met asks for something
 pub not_none : {A : Type 0} (o : Option A) → o ≡ None → IsSome o → ⊥
 not_none None is some = absurd cc
@@ -191,6 +205,27 @@ pub save_is : (words : List Text) (image : Text) (names : List Text) → IsSome 
 save_is words image names some is =
     let form : save_in words ≡ save_of [] (image ∷ names) = save_by words some ∙ ap (save_of []) is in
     form ∙ save_value image names (subst IsSome form some)
+
+audit_by_count : (t : Bool) (image report script : Text) (scripts : List Text) → nat_le (length scripts) 63 ≡ t
+    → IsSome (audit_of [] (image ∷ report ∷ script ∷ scripts))
+    → audit_of [] (image ∷ report ∷ script ∷ scripts) ≡ Some (record { image = image; report = report; scripts = script ∷ scripts })
+audit_by_count true image report script scripts is some =
+    ap (λ (t : Bool). if t then Some (record { image = image; report = report; scripts = script ∷ scripts }) else None) is
+audit_by_count false image report script scripts is some =
+    absurd (not_none (audit_of [] (image ∷ report ∷ script ∷ scripts))
+    (ap (λ (t : Bool). if t then Some (record { image = image; report = report; scripts = script ∷ scripts }) else None) is) some)
+
+audit_value : (image report : Text) (names : List Text) → IsSome (audit_of [] (image ∷ report ∷ names))
+    → audit_of [] (image ∷ report ∷ names) ≡ Some (record { image = image; report = report; scripts = names })
+audit_value image report [] some = absurd cc
+audit_value image report (script ∷ scripts) some = audit_by_count (nat_le (length scripts) 63) image report script scripts refl some
+
+-- the audit of these words
+pub audit_is : (words : List Text) (image report : Text) (names : List Text) → IsSome (audit_in words) → plain_words words ≡ image ∷ report ∷ names
+    → audit_in words ≡ Some (record { image = image; report = report; scripts = names })
+audit_is words image report names some is =
+    let form : audit_in words ≡ audit_of [] (image ∷ report ∷ names) = audit_by words some ∙ ap (audit_of []) is in
+    form ∙ audit_value image report names (subst IsSome form some)
 
 pub none_given : {A : Type 0} (now : A → Text) (items : List A) → length items ≡ 0 → map now items ≡ []
 none_given now [] none = refl

@@ -28,4 +28,5 @@ top_app = record { top = record (new_shape (codes "svsm_run")) { no_binary_name 
 
 abbrev pub words_app : App
 words_app =
-    with_subcommand (with_subcommand (with_subcommand top_app run_shape) (plain_shape (codes "gen"))) (plain_shape (codes "save"))
+    with_subcommand (with_subcommand (with_subcommand (with_subcommand top_app run_shape) (plain_shape (codes "gen"))) (plain_shape (codes "save")))
+    (plain_shape (codes "audit"))

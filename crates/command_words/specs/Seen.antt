@@ -3,9 +3,10 @@ use Rattle.std.specs.Prelude.{map, Option, Some, None}
 use Rattle.command_words.specs.declared.asked.RunWords.{RunWords}
 use Rattle.command_words.specs.declared.asked.GenWords.{GenWords}
 use Rattle.command_words.specs.declared.asked.SaveWords.{SaveWords}
+use Rattle.command_words.specs.declared.asked.AuditWords.{AuditWords}
 use Rattle.command_words.specs.declared.asked.Command.{Command}
 use Rattle.command_words.specs.declared.asked.Command.TheVariants as commands
-use Rattle.command_words.specs.Words.{Run, Save}
+use Rattle.command_words.specs.Words.{Run, Save, Audit}
 
 abbrev pub run_seen : RunWords → Run
 run_seen run = record { brief = run.brief; image = run.image.now; scripts = map (λ name. name.now) run.scripts.items }
@@ -22,6 +23,14 @@ save_seen save = record { image = save.image.now; scripts = map (λ name. name.n
 abbrev pub save_asked : Option Command → Option Save
 save_asked (Some (commands.Save save)) = Some (save_seen save)
 save_asked _ = None
+
+abbrev pub audit_seen : AuditWords → Audit
+audit_seen audit = record { image = audit.image.now; report = audit.report.now; scripts = map (λ name. name.now) audit.scripts.items }
+
+-- the audit that is asked for, if it is one
+abbrev pub audit_asked : Option Command → Option Audit
+audit_asked (Some (commands.Audit audit)) = Some (audit_seen audit)
+audit_asked _ = None
 
 -- the generated scripts that are asked for, if it is they
 abbrev pub gen_asked : Option Command → Option GenWords

@@ -103,11 +103,29 @@ save_of _ _ = None
 abbrev pub save_in : List Text → Option Save
 save_in = command_by (codes "save") save_of
 
+-- AN AUDIT
+
+-- the names of an image, of a report, and of the scripts of its run
+pub record Audit : Type 0 where
+  pub image : Text
+  pub report : Text
+  pub scripts : List Text
+
+-- no flag, an image, a report and 1 to 64 scripts
+abbrev pub audit_of : List Text → List Text → Option Audit
+audit_of [] (image ∷ (report ∷ (script ∷ scripts))) =
+    if nat_le (length scripts) 63 then Some (record { image = image; report = report; scripts = script ∷ scripts }) else None
+audit_of _ _ = None
+
+-- the words of `audit`
+abbrev pub audit_in : List Text → Option Audit
+audit_in = command_by (codes "audit") audit_of
+
 -- WORDS OF A FORM
 
 -- words of a command without flags
 abbrev pub IsPlain : List Text → Type 0
-IsPlain words = IsSome (gen_in words) ⊎ IsSome (save_in words)
+IsPlain words = IsSome (gen_in words) ⊎ (IsSome (save_in words) ⊎ IsSome (audit_in words))
 
 abbrev pub IsOfForm : List Text → Type 0
 IsOfForm words = IsSome (run_in words) ⊎ IsPlain words

@@ -1,6 +1,6 @@
 //! Which words are a command.
 ghost use Rattle.std.specs.Prelude.{◌≡◌, map, string_bytes, is_some, not, ◌||◌, ◌&&◌, bytes_eq, codes};
-ghost use Rattle.command_words.specs.Words.{is_flag, is_end, run_in, run_of, brief_in, flags, others, gen_in, gen_of, save_in};
+ghost use Rattle.command_words.specs.Words.{is_flag, is_end, run_in, run_of, brief_in, flags, others, gen_in, gen_of, save_in, audit_in};
 ghost use Rattle.command_words.specs.Scan.{is_number_at, are_plain};
 
 use crate::decimal::{number_between, number_of};
@@ -126,6 +126,16 @@ pub fn is_save(words: &[String]) -> bool
 {
     match words {
         [word, rest @ ..] if word.as_str() == "save" => are_plain(rest, 2, 65),
+        _ => false,
+    }
+}
+
+/// Whether the words ask for an audit.
+pub fn is_audit(words: &[String]) -> bool
+    ensures { result ≡ is_some (audit_in (map string_bytes words.now)) }
+{
+    match words {
+        [word, rest @ ..] if word.as_str() == "audit" => are_plain(rest, 3, 66),
         _ => false,
     }
 }

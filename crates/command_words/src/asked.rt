@@ -26,10 +26,19 @@ pub struct SaveWords<'a> {
     pub scripts: Vec<&'a str>,
 }
 
+/// A report that is to be audited, as the words ask for it.
+#[derive(Debug, Drop)]
+pub struct AuditWords<'a> {
+    pub image: &'a str,
+    pub report: &'a str,
+    pub scripts: Vec<&'a str>,
+}
+
 /// A command, as the words ask for it.
 #[derive(Debug, Drop)]
 pub enum Command<'a> {
     Run(RunWords<'a>),
     Gen(GenWords),
     Save(SaveWords<'a>),
+    Audit(AuditWords<'a>),
 }

@@ -2,11 +2,11 @@
 ghost use Rattle.std.specs.Prelude.{◌≡◌, IfOk, OnErr, IsSome, Some, map, option_map, string_bytes};
 ghost use Rattle.clap.specs.Words.{app_of, with_subcommand, HasMatchesOf};
 ghost use Rattle.command_words.specs.App.{run_shape, plain_shape, words_app};
-ghost use Rattle.command_words.specs.Words.{run_in, gen_in, save_in, IsPlain, IsOfForm, plain_words};
-ghost use Rattle.command_words.specs.Seen.{run_seen, run_asked, gen_asked, save_seen, save_asked};
+ghost use Rattle.command_words.specs.Words.{run_in, gen_in, save_in, audit_in, IsPlain, IsOfForm, plain_words};
+ghost use Rattle.command_words.specs.Seen.{run_seen, run_asked, gen_asked, save_seen, save_asked, audit_seen, audit_asked};
 
-use crate::admitted::{is_gen, is_run, is_save};
-use crate::asked::{Command, GenWords, RunWords, SaveWords};
+use crate::admitted::{is_audit, is_gen, is_run, is_save};
+use crate::asked::{AuditWords, Command, GenWords, RunWords, SaveWords};
 use crate::decimal::numbers_of;
 use clap::error::ErrorKind;
 use clap::{Arg, ArgAction, ArgMatches, Command as App};
@@ -48,7 +48,8 @@ fn command<'a>(alloc: Global) -> Result<App<'a>, AllocError>
     let top = App::new(alloc, "svsm_run").no_binary_name(true);
     let run = with_run(alloc, top)?;
     let generated = with_plain(alloc, run, "gen")?;
-    with_plain(alloc, generated, "save")
+    let saved = with_plain(alloc, generated, "save")?;
+    with_plain(alloc, saved, "audit")
 }
 
 // The words, parsed. Words that are admitted are refused only for want of memory.
@@ -135,11 +136,33 @@ fn save_of<'a>(alloc: Global, words: &'a [String]) -> Result<SaveWords<'a>, NoMe
     })
 }
 
+// The audit that these words ask for.
+fn audit_of<'a>(alloc: Global, words: &'a [String]) -> Result<AuditWords<'a>, NoMemory>
+    requires { IsSome (audit_in (map string_bytes words.now)) }
+    ensures { IfOk result (λ audit. audit_in (map string_bytes words.entry.now) ≡ Some (audit_seen audit)) }
+{
+    let plain = plain_words(alloc, words)?;
+    let Some((image, others)) = plain.split_first() else {
+        unreachable!()
+    };
+    let Some((report, names)) = others.split_first() else {
+        unreachable!()
+    };
+    let mut scripts = Vec::new(alloc);
+    scripts.extend_from_slice(names)?;
+    Ok(AuditWords {
+        image: *image,
+        report: *report,
+        scripts,
+    })
+}
+
 /// The command that the words ask for, where they are of a form. Only words that are can want memory.
 pub fn command_of<'a>(alloc: Global, words: &'a [String]) -> Result<Option<Command<'a>>, NoMemory>
     ensures run { IfOk result (λ command. run_asked command ≡ run_in (map string_bytes words.entry.now)) }
     ensures generated { IfOk result (λ command. gen_asked command ≡ gen_in (map string_bytes words.entry.now)) }
     ensures save { IfOk result (λ command. save_asked command ≡ save_in (map string_bytes words.entry.now)) }
+    ensures audit { IfOk result (λ command. audit_asked command ≡ audit_in (map string_bytes words.entry.now)) }
     ensures memory { OnErr result (IsOfForm (map string_bytes words.entry.now)) }
 {
     if is_run(words) {
@@ -150,6 +173,9 @@ pub fn command_of<'a>(alloc: Global, words: &'a [String]) -> Result<Option<Comma
     }
     if is_save(words) {
         return Ok(Some(Command::Save(save_of(alloc, words)?)));
+    }
+    if is_audit(words) {
+        return Ok(Some(Command::Audit(audit_of(alloc, words)?)));
     }
     Ok(None)
 }

@@ -71,7 +71,7 @@ fn sixty_four_scripts_are_taken(rt: HostRuntime) -> Result<(), Fail> {
 #[test]
 fn sixty_five_scripts_are_refused(rt: HostRuntime) -> Result<(), Fail> {
     let alloc = rt.alloc();
-    for line in ["run image", "save image"] {
+    for line in ["run image", "save image", "audit image report"] {
         let given = with_names(alloc, line, 65)?;
         assert!(rt; command_of(alloc, &given)?.is_none());
     }
@@ -87,6 +87,19 @@ fn a_save_has_an_image_and_scripts(rt: HostRuntime) -> Result<(), Fail> {
     };
     assert_eq!(rt; save.image, "image");
     assert_eq!(rt; save.scripts.as_slice(), ["", "a"].as_slice());
+    Ok(())
+}
+
+#[test]
+fn an_audit_has_an_image_a_report_and_scripts(rt: HostRuntime) -> Result<(), Fail> {
+    let alloc = rt.alloc();
+    let given = words(alloc, "audit image  a b")?;
+    let Some(Command::Audit(audit)) = command_of(alloc, &given)? else {
+        panic!(&rt; "the words ask for an audit")
+    };
+    assert_eq!(rt; audit.image, "image");
+    assert_eq!(rt; audit.report, "");
+    assert_eq!(rt; audit.scripts.as_slice(), ["a", "b"].as_slice());
     Ok(())
 }
 
@@ -110,6 +123,8 @@ fn other_words_are_refused(rt: HostRuntime) -> Result<(), Fail> {
         "Run a b",
         "save image",
         "save image a --brief",
+        "audit image report",
+        "audit image report a --brief",
     ];
     for line in lines {
         let given = words(alloc, line)?;

@@ -8,9 +8,9 @@ use Rattle.command_words.specs.Words.{Run, Save, run_in}
 use Rattle.image_text.specs.declared.error.SaveError.{SaveError}
 use Rattle.run_core_top.specs.declared.stop.Stop.TheVariants as stops
 use Rattle.run_core_top.specs.declared.top.Ran.{Ran}
-use Rattle.run_core_top.specs.Headline.{IsRefusedSave, IsUnsaved, IsUnsavedWith, KeepsLaws, KeepsLawsOf, StopsWith}
+use Rattle.run_core_top.specs.Headline.{IsRefusedSave, IsUnsaved, IsUnsavedWith, KeepsLawsIfRun, KeepsLawsOf, StopsWith}
 use Rattle.run_core_top.specs.Stops.{stop_line}
-use Rattle.run_core_top.specs.Task.{Task, of_files, of_numbers, of_saved, task_in}
+use Rattle.run_core_top.specs.Task.{Task, of_files, of_numbers, of_saved, of_audit, task_in}
 use Rattle.run_core_top.specs.Unsaved.{ToldUnsaved, ToldMemory, IsUnsavedBy}
 use Rattle.run_core_top.proofs.TaskLemmas.{files_task}
 use Rattle.run_core_top.proofs.TopLemmas.{memory_cause, stops_for}
@@ -34,6 +34,7 @@ of_save : (told : List ℕ → Option (List ℕ)) (task : Task) (trace : List En
     → (command : Save) × (task ≡ of_saved command) × IsUnsaved told command trace error
 of_save told (of_files command) trace error refused = absurd refused
 of_save told (of_numbers numbers) trace error refused = absurd refused
+of_save told (of_audit command) trace error refused = absurd refused
 of_save told (of_saved command) trace error refused = (command, refl, refused)
 
 -- what is told of it
@@ -86,12 +87,12 @@ unsaved_trace error trace IsTold ran by =
     by
 
 pub unsaved_laws : (shelf : ShelfView) (words : List (List ℕ)) (task : Task) (error : SaveError) (trace : List Entry) (IsTold : List ℕ → Type 0)
-    (ran : Ran) → task_in words ≡ Some task → KeepsLaws shelf.told task trace → IsUnsavedBy error trace IsTold ran
+    (ran : Ran) → task_in words ≡ Some task → KeepsLawsIfRun shelf.told task trace → IsUnsavedBy error trace IsTold ran
     → (ran.status ≡ 6) ⊎ (ran.status ≡ 8) → KeepsLawsOf shelf words ran.trace
 unsaved_laws shelf words task error trace IsTold ran is keeps by either =
     ⊎_elim
     (λ (told : ToldUnsaved error trace IsTold ran).
-    (task, is, subst (λ (t : List Entry). KeepsLaws shelf.told task t) (sym told.1) keeps))
+    (task, is, subst (λ (t : List Entry). KeepsLawsIfRun shelf.told task t) (sym told.1) keeps))
     (λ (memory : ToldMemory IsTold ran).
     let of = memory.0 in
     absurd (⊎_elim (λ (six : ran.status ≡ 6). omega (arith, of, six)) (λ (eight : ran.status ≡ 8). omega (arith, of, eight)) either))

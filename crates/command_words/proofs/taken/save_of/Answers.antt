@@ -1,11 +1,11 @@
-use Rattle.std.proofs.Common.{◌≡◌, ◌∙◌, ◌∷◌, ap, map, List, sym, [], inr, rules}
+use Rattle.std.proofs.Common.{◌≡◌, ◌∙◌, ◌∷◌, ap, map, List, sym, [], inl, inr, rules}
 use Rattle.std.specs.Prelude.{string_bytes, Option, Some}
 use Rattle.command_words.specs.Words.{Text, Save, save_of, plain_words}
 use Rattle.command_words.proofs.PlainLaw.{save_by, save_is, not_none, none_given}
 use Rattle.command_words.proofs.taken.save_of.Goals as goal
 
 pub plain_words-requires : goal.plain_words-requires
-plain_words-requires c = inr c.requires
+plain_words-requires c = inr (inl c.requires)
 
 pub unreachable-requires : goal.unreachable-requires
 unreachable-requires c =
