@@ -76,6 +76,19 @@ agree_ends report piece at place within is ends =
           ∙ begins (drop at report) piece (λ k under. is.same k (omega (arith, under, ends))) (omega (arith, longer, ends)));
     }
 
+front_of : (piece rest : List ℕ) → take (length piece) (piece ++ rest) ≡ piece
+front_of [] rest = refl
+front_of (x ∷ piece) rest = ap (λ (l : List ℕ). x ∷ l) (front_of piece rest)
+
+-- a report that goes on with the whole piece
+pub agree_begins : (report piece rest : List ℕ) (at : ℕ) → at ≤ length report → drop at report ≡ piece ++ rest
+    → Agrees report at piece (Ok (at + length piece))
+agree_begins report piece rest at within is = record {
+  within = omega (arith, within, length-drop at report, ap length is, length-append piece rest);
+  same = take-add at (length piece) report
+      ∙ ap (λ (l : List ℕ). take at report ++ l) (ap (take (length piece)) is ∙ front_of piece rest);
+}
+
 pub agree_differs : (report piece : List ℕ) (at place : ℕ) → at ≤ length report → DiffersAt (drop at report) piece place → (place ≡ length piece → ⊥)
     → Agrees report at piece (Err (at + place))
 agree_differs report piece at place within is before = λ rest.

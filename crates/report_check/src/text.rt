@@ -18,8 +18,8 @@ use std::alloc::Global;
 use svsm_steps::{CoreRun, Entry};
 use svsm_types::{NoMemory, RmpRow};
 
-// Up to where the report goes on as the piece does, from `at` on; or where it differs.
-fn agree(report: &[u8], at: usize, piece: &[u8]) -> Result<usize, usize>
+// The same, byte by byte.
+fn agree_bytes(report: &[u8], at: usize, piece: &[u8]) -> Result<usize, usize>
     requires { at ≤ length report.now }
     ensures { Agrees report.now at piece.now result }
 {
@@ -28,6 +28,17 @@ fn agree(report: &[u8], at: usize, piece: &[u8]) -> Result<usize, usize>
         Some(place) if place == piece.len() => Ok(at + place),
         Some(place) => Err(at + place),
     }
+}
+
+// Up to where the report goes on as the piece does, from `at` on; or where it differs.
+fn agree(report: &[u8], at: usize, piece: &[u8]) -> Result<usize, usize>
+    requires { at ≤ length report.now }
+    ensures { Agrees report.now at piece.now result }
+{
+    if report[at..].starts_with(piece) {
+        return Ok(at + piece.len());
+    }
+    agree_bytes(report, at, piece)
 }
 
 fn agree_entries(report: &[u8], at: usize, entries: &[Entry]) -> Result<usize, usize>

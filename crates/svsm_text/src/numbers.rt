@@ -64,16 +64,17 @@ pub fn read_hex(bytes: &[u8]) -> Option<u64>
     value_of(digits)
 }
 
+static GLYPHS: [u8; 16] = [
+    b'0', b'1', b'2', b'3', b'4', b'5', b'6', b'7', b'8', b'9', b'a', b'b', b'c', b'd', b'e', b'f',
+];
+
 // The lower-case digit.
+#[inline(always)]
 fn glyph_of(digit: u64) -> u8
     requires { digit < 16 }
     ensures { result ≡ digit_glyph false digit }
 {
-    if digit < 10 {
-        b'0' + digit as u8
-    } else {
-        b'a' + (digit - 10) as u8
-    }
+    GLYPHS[digit as usize]
 }
 
 /// Writes the lower-case digits before `end`, and returns where they begin. All behind them stays.
