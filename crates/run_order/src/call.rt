@@ -4,8 +4,8 @@ ghost use Rattle.run_order.specs.Finds.{AreInMap};
 ghost use Rattle.run_order.specs.Reads.{CallReads};
 
 use crate::reader::{CoreEntries, Found, Stop};
-use call_core::{next, start};
-use svsm_steps::{Answer, Caller, Do, Got, Outcome};
+use call_core::{answered, polled, start};
+use svsm_steps::{Answer, Caller, Do, Outcome};
 use svsm_types::{Gpa, Regs};
 
 /// How a call ended, or where its entries leave it.
@@ -40,13 +40,13 @@ pub fn read_call(
                     if let Answer::Fault { .. } = answer {
                         return CallEnd::Faulted { ticket };
                     }
-                    (state, asked) = next(state, Got::Answer(answer));
+                    answered(&mut state, answer, &mut asked);
                 }
                 Found::Not(stop) => return CallEnd::Stopped(stop),
             },
             Do::Poll => {
                 polls += 1;
-                (state, asked) = next(state, Got::Poll(polls == wanted as u64));
+                polled(&mut state, polls == wanted as u64, &mut asked);
             }
             Do::Reply(regs) => {
                 let area = state.caa();

@@ -21,8 +21,8 @@ returns-in-Fault c =
           (call_fault core entries _ _ given (rest c.steps.state) _ _ more c.in-Step.step c.in-Made.ticket c.in-Fault.done c.in-Made.answer asks c.in-Fault.is found.1),
     )
 
-pub next-requires : goal.next-requires
-next-requires c = record {
+pub answered-requires : goal.answered-requires
+answered-requires c = record {
   fits = answer_got (rest c.steps.state) c.in-Step.step c.in-Made.answer (sym c.steps.invariant.asks ∙ c.in-Step.is);
   in_map = c.in-Made.ensures.2;
 }
@@ -34,12 +34,12 @@ steps-preserved-in-Made c =
     let asks : first_of (rest c.steps.state) ≡ todo.Step c.in-Step.step = sym c.steps.invariant.asks ∙ c.in-Step.is in
     let found = c.in-Made.ensures in
     record {
-      asks = c.next.ensures.goes.asks ∙ ap first_of (sym c.next.ensures.goes.follows);
-      few = omega (arith, c.next.ensures.rank, c.steps.invariant.few);
+      asks = c.answered.ensures.goes.asks ∙ ap first_of (sym c.answered.ensures.goes.follows);
+      few = omega (arith, c.answered.ensures.rank, c.steps.invariant.few);
       goes = goes_both core entries _ _ _ c.steps.invariant.goes found.0;
       leads = λ given runs more. lead_on core entries _ _ _ _ _ _ (c.steps.invariant.leads given runs more)
-          (call_step core entries _ _ given (rest c.steps.state) (rest c.next.result.0) _ _ _ more c.in-Step.step c.in-Made.ticket c.in-Made.answer asks
-          (no_fault c.in-Made.answer (λ performed is. c.in_default.not-Fault performed is)) found.1 c.next.ensures.goes.follows c.next.ensures.area);
+          (call_step core entries _ _ given (rest c.steps.state) (rest c.answered.new.state) _ _ _ more c.in-Step.step c.in-Made.ticket c.in-Made.answer asks
+          (no_fault c.in-Made.answer (λ performed is. c.in_default.not-Fault performed is)) found.1 c.answered.ensures.goes.follows c.answered.ensures.area);
     }
 
 pub returns-in-Not : goal.returns-in-Not
