@@ -1,7 +1,9 @@
 //! An audit, carried out.
-ghost use Rattle.std.specs.Prelude.{◌≡◌, ◌++◌, ◌+◌, ◌<◌, ◌≤◌, ◌^◌, flat_map, length, IfOk, IfErr, OnOk};
+ghost use Rattle.std.specs.Prelude.{◌≡◌, ◌++◌, ◌+◌, ◌<◌, ◌≤◌, ◌^◌, [], ◌∷◌, flat_map, length, IfOk, IfErr, OnOk};
 ghost use Rattle.command_words.specs.Seen.{audit_seen};
 ghost use Rattle.report.specs.Text.{spaced};
+ghost use Rattle.run_core_top.specs.Task.{of_audit};
+ghost use Rattle.run_core_top.specs.Asked.{task_names, AsksFor};
 ghost use Rattle.run_core_top.specs.Audited.{reason_fields, answer_fields, answer_line, answer_status, IsReportFile, IsAuditTold, ReportCause};
 ghost use Rattle.run_core_top.specs.Causes.{AuditCause};
 
@@ -28,6 +30,7 @@ fn load_report<S: Shelf>(
     ensures calm { OnOk result ((S.seen shelf.new).faults ≡ (S.seen shelf.old).faults) }
     ensures read { IfOk result (λ report. IsReportFile ((S.seen shelf.old).told name.now) report.items) }
     ensures stop { IfErr result (ReportCause number (S.seen shelf.old) (S.seen shelf.new) name.now) }
+    ensures asked { AsksFor (name.now ∷ []) (S.seen shelf.old) (S.seen shelf.new) result }
 {
     match shelf.load(alloc, name, REPORT_LIMIT) {
         Ok(bytes) => Ok(bytes),
@@ -94,6 +97,7 @@ pub fn carry_out_audit<S: Shelf>(
     ensures report { IfOk result (λ report. IsAuditTold (S.seen shelf.old).told (audit_seen words.now) report.trace report.text.items report.status) }
     ensures status { IfOk result (λ report. report.status ≤ 1) }
     ensures stop { IfErr result (AuditCause (S.seen shelf.old) (S.seen shelf.new) (audit_seen words.now)) }
+    ensures asked { AsksFor (task_names (of_audit (audit_seen words.now))) (S.seen shelf.old) (S.seen shelf.new) result }
 {
     let run = words_of_run(alloc, words.image, &words.scripts)?;
     let files = load_files(alloc, shelf, &run)?;

@@ -1,5 +1,5 @@
 -- What files in memory tell, and which of their loads fail.
-use Rattle.std.specs.Prelude.{◌≡◌, ℕ, List, Option, Some, Result, Ok, Err, if◌then◌else◌, bytes_eq, string_bytes}
+use Rattle.std.specs.Prelude.{◌≡◌, ℕ, List, Option, Some, Result, Ok, Err, if◌then◌else◌, bytes_eq, map, string_bytes}
 use Rattle.std.specs.Option.{option_map}
 use Rattle.std.specs.BTreeMap.{get_by_text}
 use Rattle.svsm_outside.specs.declared.memory_shelf.MemoryShelf.{MemoryShelf}
@@ -13,7 +13,12 @@ abbrev pub bytes_under : MemoryShelf → List ℕ → Option (List ℕ)
 bytes_under shelf name = option_map (λ bytes. bytes.items) (get_by_text shelf.files name)
 
 abbrev pub shelf_view : MemoryShelf → ShelfView
-shelf_view shelf = record { told = bytes_under shelf; faults = shelf.faults; failed = option_map string_bytes shelf.failed }
+shelf_view shelf = record {
+  told = bytes_under shelf;
+  asked = map string_bytes shelf.asked.items;
+  faults = shelf.faults;
+  failed = option_map string_bytes shelf.failed;
+}
 
 -- these bytes under this name, and the others as they were
 abbrev pub put_under : List ℕ → List ℕ → (List ℕ → Option (List ℕ)) → List ℕ → Option (List ℕ)

@@ -1,9 +1,9 @@
 -- What loads and writes do, and the causes of their faults. Nothing is said of bytes that are not told.
-use Rattle.std.specs.Prelude.{◌≡◌, ◌+◌, ◌-◌, ◌⊎◌, ◌^◌, ◌<◌, ◌≤◌, ℕ, List, length, take, min, Some, Result, Ok, Err}
+use Rattle.std.specs.Prelude.{◌≡◌, ◌+◌, ◌-◌, ◌⊎◌, ◌^◌, ◌<◌, ◌≤◌, ℕ, List, [], ◌∷◌, ◌++◌, length, take, min, Some, Result, Ok, Err}
 use Rattle.std.specs.Io.KnownBytes.{Appends}
 use Rattle.svsm_outside.specs.Views.{ShelfView, SinkView}
 use Rattle.svsm_outside.specs.declared.shelf.LoadError.{LoadError}
-use Rattle.svsm_outside.specs.declared.shelf.LoadError.TheVariants.{Failed, TooLong}
+use Rattle.svsm_outside.specs.declared.shelf.LoadError.TheVariants.{Failed, TooLong, NoMemory}
 
 -- one more; a count stays at its greatest value once it is there
 abbrev pub count_up : ℕ → ℕ
@@ -33,6 +33,11 @@ Loads items told limit (Err _) = Unit {0}
 abbrev pub LoadCause : {T : Type 0} → List ℕ → ShelfView → ShelfView → Result T LoadError → Type 0
 LoadCause name before now (Err Failed) = FailedAt name before now
 LoadCause name before now _ = Stays before now
+
+-- a load asks for its name, once; where it wants memory it may not have come to that
+abbrev pub Asks : {T : Type 0} → List ℕ → ShelfView → ShelfView → Result T LoadError → Type 0
+Asks name before now (Err NoMemory) = (now.asked ≡ before.asked) ⊎ (now.asked ≡ before.asked ++ (name ∷ []))
+Asks name before now _ = now.asked ≡ before.asked ++ (name ∷ [])
 
 -- the text stands behind what stood there, and no write failed
 pub record IsWritten (before now : SinkView) (text : List ℕ) : Type 0 where

@@ -1,5 +1,5 @@
 //! The files of the system.
-ghost use Rattle.std.specs.Prelude.{◌≡◌, ◌≤◌, ◌⊎◌, ◌↔◌, None, length, option_map, string_bytes, IfOk, IfSome};
+ghost use Rattle.std.specs.Prelude.{◌≡◌, ◌≤◌, ◌⊎◌, ◌↔◌, None, [], length, map, option_map, string_bytes, IfOk, IfSome};
 ghost use Rattle.std.specs.IoError.{error_kind};
 ghost use Rattle.svsm_outside.specs.Outside.{Loads};
 
@@ -13,18 +13,21 @@ use std::rt::Files;
 #[derive(Drop)]
 pub struct FileShelf<'a, R: Files> {
     rt: &'a R,
+    asked: Vec<String>,
     faults: u64,
     failed: Option<String>,
 }
 
 impl<'a, R: Files> FileShelf<'a, R> {
     /// The files, of which none was loaded yet.
-    pub fn new(rt: &'a R) -> FileShelf<'a, R>
+    pub fn new(rt: &'a R, alloc: Global) -> FileShelf<'a, R>
+        ensures asked { result.asked.items ≡ [] }
         ensures faults { result.faults ≡ 0 }
         ensures failed { result.failed ≡ None }
     {
         FileShelf {
             rt,
+            asked: Vec::new(alloc),
             faults: 0,
             failed: None,
         }
@@ -75,10 +78,16 @@ fn read_file<R: Files>(rt: &R, alloc: Global, name: &str, limit: u64) -> Result<
 }
 
 impl<R: Files> Shelf for FileShelf<'_, R> {
-    ghost seen = { λ s. record { told = λ _. None; faults = s.faults; failed = option_map string_bytes s.failed } };
+    ghost seen = { λ s. record {
+      told = λ _. None;
+      asked = map string_bytes s.asked.items;
+      faults = s.faults;
+      failed = option_map string_bytes s.failed;
+    } };
 
     fn load(&mut self, alloc: Global, name: &str, limit: u64) -> Result<Vec<u8>, LoadError> {
         let kept = String::from_str(alloc, name)?;
+        self.asked.push(String::from_str(alloc, name)?)?;
         let loaded = read_file(self.rt, alloc, name, limit);
         if let Err(LoadError::Failed) = loaded {
             self.faults = self.faults.saturating_add(1);

@@ -1,8 +1,8 @@
 //! A shelf in memory.
-ghost use Rattle.std.specs.Prelude.{◌≡◌, ◌+◌, ◌-◌, ◌^◌, ◌<◌, ◌≤◌, ◌↔◌, ◌⊎◌, List, ℕ, Some, None, [], length, min, IfOk, IfSome, OnOk, OnErr, Contains, is_none};
+ghost use Rattle.std.specs.Prelude.{◌≡◌, ◌+◌, ◌-◌, ◌^◌, ◌<◌, ◌≤◌, ◌↔◌, ◌⊎◌, List, ℕ, Some, None, [], length, map, min, IfOk, IfSome, OnOk, OnErr, Contains, is_none};
 ghost use Rattle.std.specs.Option.{option_map};
 ghost use Rattle.std.specs.String.{string_bytes};
-ghost use Rattle.svsm_outside.specs.Outside.{Loads, LoadCause};
+ghost use Rattle.svsm_outside.specs.Outside.{Loads, LoadCause, Asks};
 ghost use Rattle.svsm_outside.specs.Memory.{bytes_under, shelf_view, put_under, FailsExactly, CountsLoad, CountsFault};
 
 use crate::{LoadError, Shelf};
@@ -16,6 +16,7 @@ pub struct MemoryShelf {
     alloc: Global,
     files: BTreeMap<String, Vec<u8>>,
     failing: Vec<u64>,
+    asked: Vec<String>,
     loads: u64,
     faults: u64,
     failed: Option<String>,
@@ -26,6 +27,7 @@ impl MemoryShelf {
     pub fn new(alloc: Global, failing: &[u64]) -> Result<MemoryShelf, NoMemory>
         ensures empty { IfOk result (λ s. (name : List ℕ) → bytes_under s name ≡ None) }
         ensures failing { IfOk result (λ s. s.failing.items ≡ failing.now) }
+        ensures asked { IfOk result (λ s. s.asked.items ≡ []) }
         ensures loads { IfOk result (λ s. s.loads ≡ 0) }
         ensures faults { IfOk result (λ s. s.faults ≡ 0) }
         ensures failed { IfOk result (λ s. s.failed ≡ None) }
@@ -35,6 +37,7 @@ impl MemoryShelf {
             alloc,
             files: BTreeMap::new(alloc),
             failing,
+            asked: Vec::new(alloc),
             loads: 0,
             faults: 0,
             failed: None,
@@ -46,6 +49,7 @@ impl MemoryShelf {
         ensures ok { OnOk result ((other : List ℕ) → bytes_under self.new other ≡ put_under name.now bytes.now (bytes_under self.old) other) }
         ensures err { OnErr result ((other : List ℕ) → bytes_under self.new other ≡ bytes_under self.old other) }
         ensures failing { self.new.failing.items ≡ self.old.failing.items }
+        ensures asked { self.new.asked.items ≡ self.old.asked.items }
         ensures loads { self.new.loads ≡ self.old.loads }
         ensures faults { self.new.faults ≡ self.old.faults }
         ensures failed { self.new.failed ≡ self.old.failed }
@@ -66,12 +70,14 @@ impl Shelf for MemoryShelf {
         ensures fits { IfOk result (λ v. length v.items ≤ limit) }
         ensures bytes { IfSome (bytes_under self.old name.now) (λ told. Loads (λ v. v.items) told limit result) }
         ensures cause { LoadCause name.now (shelf_view self.old) (shelf_view self.new) result }
+        ensures asked { Asks name.now (shelf_view self.old) (shelf_view self.new) result }
         ensures fails { FailsExactly (Contains self.old.failing.items self.old.loads ⊎ (bytes_under self.old name.now ≡ None)) result }
         ensures one { CountsFault self.old.faults self.new.faults result }
         ensures numbered { CountsLoad self.old.loads self.new.loads result }
         ensures failing { self.new.failing.items ≡ self.old.failing.items }
     {
         let kept = String::from_str(self.alloc, name)?;
+        self.asked.push(String::from_str(self.alloc, name)?)?;
         let number = self.loads;
         match self.files.get(name) {
             Some(bytes) if !self.failing.contains(&number) => {

@@ -2,9 +2,9 @@
 ghost use Rattle.std.specs.Prelude.{◌≡◌, ◌≤◌, length, IfOk, IfSome};
 ghost use Rattle.svsm_outside.specs.declared.shelf.LoadError.TheVariants as load_errors;
 ghost use Rattle.svsm_outside.specs.Views.{ShelfView};
-ghost use Rattle.svsm_outside.specs.Outside.{Loads, LoadCause};
+ghost use Rattle.svsm_outside.specs.Outside.{Loads, LoadCause, Asks};
 
-use std::alloc::{AllocError, Global};
+use std::alloc::{AllocError, AllocFailed, Global};
 use thiserror::Error;
 
 /// Why a file was not loaded.
@@ -27,6 +27,14 @@ impl From<AllocError> for LoadError {
     }
 }
 
+impl<T: Drop> From<AllocFailed<T>> for LoadError {
+    ghost from_gives = { λ _ e. e ≡ load_errors.NoMemory };
+
+    fn from(_: AllocFailed<T>) -> Self {
+        LoadError::NoMemory
+    }
+}
+
 /// Named files.
 pub trait Shelf {
     ghost seen: { Self → ShelfView };
@@ -36,5 +44,6 @@ pub trait Shelf {
         ensures same { (seen self.new).told ≡ (seen self.old).told }
         ensures fits { IfOk result (λ v. length v.items ≤ limit) }
         ensures bytes { IfSome ((seen self.old).told name.now) (λ told. Loads (λ v. v.items) told limit result) }
-        ensures cause { LoadCause name.now (seen self.old) (seen self.new) result };
+        ensures cause { LoadCause name.now (seen self.old) (seen self.new) result }
+        ensures asked { Asks name.now (seen self.old) (seen self.new) result };
 }

@@ -95,7 +95,7 @@ fn a_file_of_several_buffers_is_loaded_up_to_its_limit(rt: HostRuntime) -> Resul
         bytes.push((number % 251) as u8)?;
     }
     fs::write(&rt, name.as_str(), bytes.as_slice())?;
-    let mut shelf = FileShelf::new(&rt);
+    let mut shelf = FileShelf::new(&rt, alloc);
     let whole = shelf.load(alloc, name.as_str(), 10_000)?;
     assert!(rt; whole.as_slice() == bytes.as_slice());
     let long = shelf.load(alloc, name.as_str(), 9_999);
@@ -109,7 +109,7 @@ fn a_file_of_several_buffers_is_loaded_up_to_its_limit(rt: HostRuntime) -> Resul
 #[test]
 fn the_load_of_a_folder_fails(rt: HostRuntime) -> Result<(), Fail> {
     let folder = env::temp_dir(&rt)?;
-    let mut shelf = FileShelf::new(&rt);
+    let mut shelf = FileShelf::new(&rt, rt.alloc());
     let loaded = shelf.load(rt.alloc(), folder.as_str(), 10_000);
     assert!(rt; matches!(loaded, Err(LoadError::Failed)));
     Ok(())
