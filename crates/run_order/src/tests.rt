@@ -2,8 +2,6 @@ ghost use Rattle.std.specs.Prelude.{IsTrue};
 ghost use Rattle.svsm_steps.specs.declared.call.Got.TheVariants.{Answer as Answered};
 ghost use Rattle.call_decode.specs.Goes.{IsInMap};
 
-mod histories;
-
 use super::*;
 use std::process::Abort;
 use std::test::Fail;
