@@ -25,6 +25,3 @@ mod words;
 
 pub use image_grammar::{ImageError, ImageKind};
 pub use read::read_image;
-
-#[cfg(test)]
-mod tests;
